@@ -1,0 +1,4 @@
+//! Positions, colours, chains and their breath.
+
+pub mod colour;
+pub mod theorems;

@@ -1,0 +1,5 @@
+use Rattle.judge.proofs.Judgement.{one-judgement-over}
+use Rattle.judge.proofs.any_board.one_judgement_over.Needs as need
+
+pub returns : need.returns
+returns c = one-judgement-over

@@ -1,0 +1,5 @@
+use Rattle.judge.proofs.Alive.{stays-safe-over}
+use Rattle.judge.proofs.any_board.stays_safe_over.Needs as need
+
+pub returns : need.returns
+returns c = stays-safe-over

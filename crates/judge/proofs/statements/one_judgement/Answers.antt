@@ -1,0 +1,5 @@
+use Rattle.judge.proofs.Judgement.{one-judgement}
+use Rattle.judge.proofs.statements.one_judgement.Needs as need
+
+pub returns : need.returns
+returns c = one-judgement

@@ -1,0 +1,5 @@
+use Rattle.judge.proofs.Square.{stays-safe}
+use Rattle.judge.proofs.statements.stays_safe.Needs as need
+
+pub returns : need.returns
+returns c = stays-safe

@@ -1,0 +1,3 @@
+pub mod AnyBoard
+pub mod Frame
+pub mod Promise

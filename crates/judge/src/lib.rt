@@ -1,0 +1,4 @@
+//! The judge: which stones nobody can ever take.
+
+pub mod any_board;
+pub mod statements;

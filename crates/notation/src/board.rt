@@ -1,0 +1,160 @@
+//! Reads a board from bytes into lent memory.
+
+ghost use mathlib.Core.Bool.{true, false, _&&_};
+ghost use mathlib.Core.List.{_++_};
+ghost use mathlib.Core.Path.{_≡_};
+ghost use Prim.Native.Nat.{_-_, _≤_, _<_};
+ghost use lib.Dec.{leb, eqb};
+ghost use lib.ListN.{length, getD, take, drop};
+ghost use Rattle.std.specs.shelf.Lists.{leading};
+ghost use Rattle.std.specs.declared.option.Option.the-variants.{Some, None};
+ghost use Rattle.std.specs.declared.result.Result.the-variants.{Ok, Err};
+ghost use Rattle.grid.specs.Grid.{points};
+ghost use Rattle.grid.specs.Sizes.{side-fits};
+ghost use Rattle.grid.specs.Refusals.{listed};
+ghost use Rattle.chains.specs.Views.{is-point};
+ghost use Rattle.notation.specs.Written.{write-refusal};
+ghost use Rattle.notation.specs.Layout.{width-of, height-of, size-refusal, board-refusal, Board-read};
+use chains::colour::BLACK_BYTE;
+use chains::colour::EMPTY_BYTE;
+use chains::colour::WHITE_BYTE;
+use grid::refusal::Lent;
+use grid::refusal::Refusal;
+use grid::refusal::Side;
+use grid::size::Extent;
+use grid::size::Size;
+
+/// The bytes before the points: the width and the height.
+const SIZE_BYTES: usize = 2;
+
+/// Reads a board into lent memory, or says why not and leaves that memory as it was.
+pub fn read_board(bytes: &[u8], lent: &mut [u8]) -> Result<Size, Refusal>
+    ensures { λ r. ⌜ elim r [
+      | Ok size ↦ Board-read (now (bytes .entry)) (now (lent .entry)) size (now (lent .exit))
+      | Err e ↦ (board-refusal (now (bytes .entry)) (length (now (lent .entry))) ≡ Some (listed e)) × (now (lent .exit) ≡ now (lent .entry))
+    ] ⌝ }
+{
+    let size = read_size(bytes)?;
+    let Some(points) = enough(size, lent.len()) else {
+        return Err(Refusal::TooShort(Lent::Points));
+    };
+    let Some(cells) = exactly(bytes, points) else {
+        return Err(Refusal::Count(bytes.len().saturating_sub(SIZE_BYTES)));
+    };
+    let good = good_front(cells);
+    let Some(cells) = whole(cells, good) else {
+        return Err(Refusal::BadByte(SIZE_BYTES + good));
+    };
+    lent[0..points].copy_from_slice(cells);
+    Ok(size)
+}
+
+/// The size that the first two bytes give.
+fn read_size(bytes: &[u8]) -> Result<Size, Refusal>
+    ensures { λ r. ⌜ elim r [
+      | Ok size ↦ (size-refusal (now (bytes .entry)) ≡ None) × (size .width ≡ width-of (now (bytes .entry))) × (size .height ≡ height-of (now (bytes .entry)))
+      | Err e ↦ size-refusal (now (bytes .entry)) ≡ Some (listed e)
+    ] ⌝ }
+{
+    let Some(width) = side(bytes, 0) else {
+        return Err(Refusal::BadSide(Side::Width));
+    };
+    let Some(height) = side(bytes, 1) else {
+        return Err(Refusal::BadSide(Side::Height));
+    };
+    Ok(Size::new(width, height))
+}
+
+/// The side whose length stands at that place; a byte that is missing is no length.
+fn side(bytes: &[u8], place: usize) -> Option<Extent>
+    ensures { λ r. ⌜ elim r [
+      | Some e ↦ (side-fits (getD (now (bytes .entry)) place 0) ≡ true) × (e .points ≡ getD (now (bytes .entry)) place 0)
+      | None ↦ side-fits (getD (now (bytes .entry)) place 0) ≡ false
+    ] ⌝ }
+{
+    if place >= bytes.len() {
+        return None;
+    }
+    Extent::new(bytes[place])
+}
+
+/// How many points the board has, if so much memory is lent.
+pub(crate) fn enough(size: Size, lent: usize) -> Option<usize>
+    ensures { λ r. ⌜ elim r [
+      | Some n ↦ (n ≡ points (size .width) (size .height)) × (n ≤ lent) × (1 ≤ n) × (n ≤ 361)
+      | None ↦ lent < points (size .width) (size .height)
+    ] ⌝ }
+{
+    let points = size.points();
+    if points > lent { None } else { Some(points) }
+}
+
+/// The bytes after the size, if they are exactly so many.
+fn exactly(bytes: &[u8], points: usize) -> Option<&[u8]>
+    requires { ⌜ 1 ≤ points ⌝ }
+    ensures { λ r. ⌜ elim r [
+      | Some cells ↦ (now cells ≡ drop 2 (now (bytes .entry))) × (length (now cells) ≡ points) × (length (now (bytes .entry)) - 2 ≡ points)
+      | None ↦ eqb (length (now (bytes .entry)) - 2) points ≡ false
+    ] ⌝ }
+{
+    if bytes.len() < SIZE_BYTES {
+        return None;
+    }
+    let cells = &bytes[SIZE_BYTES..];
+    if cells.len() == points {
+        Some(cells)
+    } else {
+        None
+    }
+}
+
+/// How many of the bytes, from the first on, are points.
+fn good_front(cells: &[u8]) -> usize
+    ensures value { λ r. ⌜ r ≡ leading is-point (now (cells .entry)) ⌝ }
+    ensures bound { λ r. ⌜ r ≤ length (now (cells .entry)) ⌝ }
+{
+    for (i, cell) in cells.iter().enumerate() {
+        if !is_point(*cell) {
+            return i;
+        }
+    }
+    cells.len()
+}
+
+pub(crate) fn is_point(byte: u8) -> bool
+    ensures { λ r. ⌜ r ≡ is-point byte ⌝ }
+{
+    byte == EMPTY_BYTE || byte == BLACK_BYTE || byte == WHITE_BYTE
+}
+
+/// The bytes, if all of them are good.
+fn whole(cells: &[u8], good: usize) -> Option<&[u8]>
+    ensures { λ r. ⌜ elim r [
+      | Some all ↦ (now all ≡ now (cells .entry)) × (length (now (cells .entry)) ≤ good)
+      | None ↦ good < length (now (cells .entry))
+    ] ⌝ }
+{
+    if good < cells.len() {
+        None
+    } else {
+        Some(cells)
+    }
+}
+
+/// The points of a board of that size, if there are enough of them and all are good.
+pub(crate) fn all_good(size: Size, cells: &[u8]) -> Result<&[u8], Refusal>
+    ensures { λ r. ⌜ elim r [
+      | Ok front ↦ (write-refusal (size .width) (size .height) (now (cells .entry)) ≡ None) × (now front ≡ take (points (size .width) (size .height)) (now (cells .entry)))
+      | Err e ↦ write-refusal (size .width) (size .height) (now (cells .entry)) ≡ Some (listed e)
+    ] ⌝ }
+{
+    let Some(points) = enough(size, cells.len()) else {
+        return Err(Refusal::TooShort(Lent::Points));
+    };
+    let cells = &cells[0..points];
+    let good = good_front(cells);
+    let Some(cells) = whole(cells, good) else {
+        return Err(Refusal::BadByte(SIZE_BYTES + good));
+    };
+    Ok(cells)
+}

@@ -1,0 +1,6 @@
+//! Boards as bytes: the size, then the points in reading order; and the lines that the programs print.
+
+pub mod board;
+pub mod failure;
+pub mod lines;
+pub mod written;

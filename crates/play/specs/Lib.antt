@@ -1,0 +1,3 @@
+pub mod After
+pub mod Moves
+pub mod Played

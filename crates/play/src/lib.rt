@@ -1,0 +1,3 @@
+//! Moves of the other side.
+
+pub mod theorems;

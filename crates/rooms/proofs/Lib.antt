@@ -1,0 +1,3 @@
+pub mod All
+pub mod Bundle
+pub mod Regions
