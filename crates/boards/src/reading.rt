@@ -14,7 +14,7 @@ use notation::written::reread;
 use notation::written::rewrite;
 use std::test::*;
 
-/// What the lent memory holds before each reading.
+// What the lent memory holds before each reading.
 const BEFORE: u8 = b'#';
 
 fn refused(bytes: &[u8], expected: Refusal) -> Result<(), Fail> {
@@ -48,6 +48,14 @@ fn points() -> Result<(), Fail> {
     refused(b"\x02\x02x...", Refusal::BadByte(2))?;
     refused(b"\x02\x02...x", Refusal::BadByte(5))?;
     refused(b"\x02\x02.\x00.x", Refusal::BadByte(3))
+}
+
+#[test]
+fn chains_without_a_liberty() -> Result<(), Fail> {
+    refused(b"\x02\x01XO", Refusal::NoLiberty(0))?;
+    refused(b"\x03\x01.XO", Refusal::NoLiberty(2))?;
+    // a byte that is no point is said first
+    refused(b"\x03\x01XO?", Refusal::BadByte(4))
 }
 
 #[test]

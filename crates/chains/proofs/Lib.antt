@@ -1,6 +1,13 @@
-pub mod States
 pub mod Below
-pub mod Reach
+pub mod Breath
+pub mod Cells
 pub mod Chain
 pub mod Decided
+pub mod Labelling
+pub mod Marking
+pub mod Reach
+pub mod Searching
 pub mod Square
+pub mod States
+pub mod Views
+pub mod Walk

@@ -1,11 +1,13 @@
 -- Chains and rooms by their first points. Assumes nothing: these are definitions.
 use mathlib.Core.Path.{_≡_}
 use mathlib.Core.Logic.{_≢_}
-use mathlib.Core.Bool.{Bool, _&&_}
+use mathlib.Core.Bool.{Bool, _&&_, cond}
 use mathlib.Core.List.{List}
 use Prim.Native.Nat.{ℕ, _≤_, _<_}
 use lib.Dec.{eqb, ltb}
 use lib.ListN.{getD}
+use Rattle.std.specs.declared.option.Option.{Option}
+use Rattle.std.specs.declared.option.Option.the-variants.{Some, None}
 use Rattle.grid.specs.Graph.{Near}
 use Rattle.chains.specs.Board.{State, none, mine, yours, Board, Joined}
 use Rattle.chains.specs.Linked.{Linked}
@@ -13,6 +15,11 @@ use Rattle.chains.specs.Linked.{Linked}
 -- the points below n whose class is c
 abbrev pub of-class : ℕ → List ℕ → ℕ → ℕ → Bool
 of-class n classes c q = ltb q n && eqb (getD classes q 0) c
+
+-- a neighbour of p, if it is of the class of p
+abbrev pub link-of : List ℕ → ℕ → Option ℕ → Option ℕ
+link-of classes p None = None
+link-of classes p (Some q) = cond (eqb (getD classes q 0) (getD classes p 0)) (Some q) None
 
 -- r is the first of the points that are linked to p
 pub record First (near : Near) (t : ℕ → Bool) (p r : ℕ) : Type 0 where

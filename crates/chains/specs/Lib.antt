@@ -4,5 +4,8 @@ pub mod Computed
 pub mod Decided
 pub mod Labels
 pub mod Linked
+pub mod Marks
+pub mod Sized
 pub mod Stands
 pub mod Views
+pub mod Walked

@@ -20,7 +20,7 @@ use Rattle.grid.specs.Refusals.{listed}
 use Rattle.grid.specs.declared.refusal.Refusal.{Refusal}
 use Rattle.grid.specs.declared.size.Size.{Size}
 use Rattle.chains.specs.Views.{is-point}
-use Rattle.notation.specs.Layout.{width-of, height-of, size-points, cells-of, good-front, board-refusal, Board-read}
+use Rattle.notation.specs.Layout.{width-of, height-of, size-points, cells-of, good-front, calm-front, board-refusal, Board-read}
 use Rattle.notation.specs.Written.{good-points, write-refusal, board-bytes}
 
 -- what the list says of bytes that it does not turn away
@@ -30,9 +30,10 @@ record Good (bytes : List ℕ) (lent : ℕ) : Type 0 where
   enough : size-points bytes ≤ lent
   count : length bytes - 2 ≡ size-points bytes
   points : size-points bytes ≤ good-front bytes
+  calm : size-points bytes ≤ calm-front (width-of bytes) (height-of bytes) (cells-of bytes)
 
 good : (bytes : List ℕ) (lent : ℕ) → board-refusal bytes lent ≡ None → Good bytes lent
-good bytes lent e = record { wide = grind (arith, tells); high = grind (arith, tells); enough = grind (arith, tells); count = grind (arith, tells); points = grind (arith, tells) }
+good bytes lent e = record { wide = grind (arith, tells); high = grind (arith, tells); enough = grind (arith, tells); count = grind (arith, tells); points = grind (arith, tells); calm = grind (arith, tells) }
 
 -- bytes by the first two and the rest
 two-first : (bytes : List ℕ) → 2 ≤ length bytes → getD bytes 0 0 ∷ (getD bytes 1 0 ∷ drop 2 bytes) ≡ bytes
@@ -65,8 +66,11 @@ rewritten bytes before after size r = (none, same)
     all-good : n ≤ good-points (size .width) (size .height) after
     all-good = omega (arith, g .points, n-is, ap (leading is-point) front)
 
+    calm : n ≤ calm-front (size .width) (size .height) (take n after)
+    calm = rw (front, r .width, r .height) (g .calm)
+
     none : write-refusal (size .width) (size .height) after ≡ None
-    none = let l = long in let a = all-good in grind (arith, tells)
+    none = let l = long in let a = all-good in let c = calm in grind (arith, tells)
 
     same : board-bytes (size .width) (size .height) after ≡ bytes
     same =

@@ -8,11 +8,13 @@ use lib.ListN.{length, getD, drop}
 use Rattle.std.specs.declared.option.Option.{Option}
 use Rattle.std.specs.declared.option.Option.the-variants.{Some, None}
 use Rattle.std.specs.shelf.Lists.{leading}
-use Rattle.grid.specs.Grid.{points}
+use Rattle.grid.specs.Grid.{points, near}
 use Rattle.grid.specs.Refusals.{unless}
 use Rattle.grid.specs.Sizes.{side-fits}
 use Rattle.grid.specs.declared.size.Size.{Size}
-use Rattle.chains.specs.Views.{is-point}
+use Rattle.chains.specs.Breath.{first-breathless}
+use Rattle.chains.specs.Views.{is-point, view}
+use Rattle.chains.specs.declared.colour.Colour.the-variants.{Black}
 
 -- a size byte that is missing counts as 0, which is no size
 abbrev pub width-of : List ℕ → ℕ
@@ -33,6 +35,10 @@ cells-of bytes = drop 2 bytes
 abbrev pub good-front : List ℕ → ℕ
 good-front bytes = leading is-point (cells-of bytes)
 
+-- how many points of a board, from the first on, have no stone without a liberty
+abbrev pub calm-front : ℕ → ℕ → List ℕ → ℕ
+calm-front w h cells = first-breathless (points w h) (near w h) (view (points w h) cells Black)
+
 -- the first line of the list that turns the size away
 abbrev pub size-refusal : List ℕ → Option (ℕ × ℕ)
 size-refusal bytes = unless (side-fits (width-of bytes)) (1, 0) (unless (side-fits (height-of bytes)) (1, 1) None)
@@ -45,7 +51,8 @@ board-refusal bytes lent =
     (unless (leb (size-points bytes) lent) (12, 0)
     (unless (eqb (length bytes - 2) (size-points bytes)) (2, length bytes - 2)
     (unless (leb (size-points bytes) (good-front bytes)) (3, 2 + good-front bytes)
-    None))))
+    (unless (leb (size-points bytes) (calm-front (width-of bytes) (height-of bytes) (cells-of bytes))) (4, calm-front (width-of bytes) (height-of bytes) (cells-of bytes))
+    None)))))
 
 -- a board of that size was read from the bytes: the lent memory holds its points, and what it held past them
 pub record Board-read (bytes before : List ℕ) (size : Size) (after : List ℕ) : Type 0 where

@@ -10,7 +10,7 @@ use Rattle.std.specs.shelf.Lists.{leading}
 use Rattle.grid.specs.Grid.{points}
 use Rattle.grid.specs.Refusals.{listed, unless}
 use Rattle.chains.specs.Views.{is-point}
-use Rattle.notation.specs.Layout.{cells-of, size-points}
+use Rattle.notation.specs.Layout.{cells-of, size-points, calm-front}
 use Rattle.notation.specs.declared.failure.Failure.{Failure}
 use Rattle.notation.specs.declared.failure.Failure.the-variants.{Refused, NoMemory}
 
@@ -28,7 +28,8 @@ abbrev pub write-refusal : ℕ → ℕ → List ℕ → Option (ℕ × ℕ)
 write-refusal w h cells =
     unless (leb (points w h) (length cells)) (12, 0)
     (unless (leb (points w h) (good-points w h cells)) (3, 2 + good-points w h cells)
-    None)
+    (unless (leb (points w h) (calm-front w h (take (points w h) cells))) (4, calm-front w h (take (points w h) cells))
+    None))
 
 -- the bytes of a board
 abbrev pub board-bytes : ℕ → ℕ → List ℕ → List ℕ

@@ -12,12 +12,14 @@ ghost use Rattle.std.specs.declared.result.Result.the-variants.{Ok, Err};
 ghost use Rattle.grid.specs.Grid.{points};
 ghost use Rattle.grid.specs.Sizes.{side-fits};
 ghost use Rattle.grid.specs.Refusals.{listed};
+ghost use Rattle.chains.specs.Breath.{first-breathless};
+ghost use Rattle.chains.specs.Sized.{count-of, near-of, seen};
 ghost use Rattle.chains.specs.Views.{is-point};
 ghost use Rattle.notation.specs.Written.{write-refusal};
 ghost use Rattle.notation.specs.Layout.{width-of, height-of, size-refusal, board-refusal, Board-read};
-use chains::colour::BLACK_BYTE;
-use chains::colour::EMPTY_BYTE;
-use chains::colour::WHITE_BYTE;
+use chains::colour::Colour;
+use chains::position::Position;
+use chains::position::good_points;
 use grid::refusal::Lent;
 use grid::refusal::Refusal;
 use grid::refusal::Side;
@@ -41,9 +43,13 @@ pub fn read_board(bytes: &[u8], lent: &mut [u8]) -> Result<Size, Refusal>
     let Some(cells) = exactly(bytes, points) else {
         return Err(Refusal::Count(bytes.len().saturating_sub(SIZE_BYTES)));
     };
-    let good = good_front(cells);
+    let good = good_points(cells);
     let Some(cells) = whole(cells, good) else {
         return Err(Refusal::BadByte(SIZE_BYTES + good));
+    };
+    let calm = calm_front(size, cells);
+    let Some(cells) = whole(cells, calm) else {
+        return Err(Refusal::NoLiberty(calm));
     };
     lent[0..points].copy_from_slice(cells);
     Ok(size)
@@ -108,25 +114,6 @@ fn exactly(bytes: &[u8], points: usize) -> Option<&[u8]>
     }
 }
 
-/// How many of the bytes, from the first on, are points.
-fn good_front(cells: &[u8]) -> usize
-    ensures value { λ r. ⌜ r ≡ leading is-point (now (cells .entry)) ⌝ }
-    ensures bound { λ r. ⌜ r ≤ length (now (cells .entry)) ⌝ }
-{
-    for (i, cell) in cells.iter().enumerate() {
-        if !is_point(*cell) {
-            return i;
-        }
-    }
-    cells.len()
-}
-
-pub(crate) fn is_point(byte: u8) -> bool
-    ensures { λ r. ⌜ r ≡ is-point byte ⌝ }
-{
-    byte == EMPTY_BYTE || byte == BLACK_BYTE || byte == WHITE_BYTE
-}
-
 /// The bytes, if all of them are good.
 fn whole(cells: &[u8], good: usize) -> Option<&[u8]>
     ensures { λ r. ⌜ elim r [
@@ -141,6 +128,22 @@ fn whole(cells: &[u8], good: usize) -> Option<&[u8]>
     }
 }
 
+/// How many points, from the first on, have no stone without a liberty.
+fn calm_front(size: Size, cells: &[u8]) -> usize
+    requires all { ⌜ length (now cells) ≡ count-of size ⌝ }
+    requires good { ⌜ length (now cells) ≤ leading is-point (now cells) ⌝ }
+    ensures { λ r. ⌜ r ≡ first-breathless (count-of size) (near-of size) (seen size (now (cells .entry)) Colour.Black) ⌝ }
+{
+    match Position::new(size, cells) {
+        Ok(position) => match position.first_breathless() {
+            Some(p) => p,
+            None => cells.len(),
+        },
+        // never: the bytes are points
+        Err(_) => cells.len(),
+    }
+}
+
 /// The points of a board of that size, if there are enough of them and all are good.
 pub(crate) fn all_good(size: Size, cells: &[u8]) -> Result<&[u8], Refusal>
     ensures { λ r. ⌜ elim r [
@@ -152,9 +155,13 @@ pub(crate) fn all_good(size: Size, cells: &[u8]) -> Result<&[u8], Refusal>
         return Err(Refusal::TooShort(Lent::Points));
     };
     let cells = &cells[0..points];
-    let good = good_front(cells);
+    let good = good_points(cells);
     let Some(cells) = whole(cells, good) else {
         return Err(Refusal::BadByte(SIZE_BYTES + good));
+    };
+    let calm = calm_front(size, cells);
+    let Some(cells) = whole(cells, calm) else {
+        return Err(Refusal::NoLiberty(calm));
     };
     Ok(cells)
 }

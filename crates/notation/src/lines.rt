@@ -11,7 +11,7 @@ ghost use Rattle.std.specs.Of.String.{string-bytes};
 ghost use Rattle.std.specs.Vec.{made};
 ghost use Rattle.std.specs.Written.{decimal};
 ghost use Rattle.notation.specs.Lines.{shown, row-text, refusal-text};
-use crate::board::is_point;
+use chains::colour::is_point;
 use grid::refusal::Refusal;
 use grid::size::Size;
 use std::alloc::AllocError;
