@@ -1,7 +1,10 @@
 pub mod Alive
 pub mod Back
+pub mod Certificate
 pub mod Frame
 pub mod Judgement
+pub mod Marked
+pub mod SmallBoards
 pub mod Sound
 pub mod Square
 pub mod Taking

@@ -13,11 +13,11 @@ use Rattle.play.proofs.Moves.{put-other, played-made, made-mine}
 use Rattle.rooms.specs.Safe.{Marks, Safe}
 use Rattle.judge.specs.Promise.{Safe-stays, Stays-so}
 use Rattle.rooms.proofs.Bundle.{Vital-room, Room-pair, safe-pair, pairs-safe, pair-map}
+use Rattle.rooms.proofs.Rounds.{chain-within}
 
 -- the chain of a marked stone is marked
 pub chain-marked : {near : Near} {b : Board} {s : Marks} {p q : ℕ} → Safe near b s → s p ≡ true → Joined near b mine p q → s q ≡ true
-chain-marked a h (at e) = h
-chain-marked a h (on {q = q} r j n e) = a .whole q r (chain-marked a h j) n e
+chain-marked a h j = chain-within (a .whole) h j
 
 -- a point of a room is not one outside it
 room-apart : (r : Marks) (e x : ℕ) → r e ≡ true → r x ≡ false → e ≢ x

@@ -1,3 +1,4 @@
 pub mod AnyBoard
+pub mod Boards
 pub mod Frame
 pub mod Promise

@@ -1,28 +1,21 @@
 -- Either all stones of mine together are safe, or some chain has at most one room that is vital to it.
 use mathlib.Core.Path.{_≡_}
 use mathlib.Core.Logic.{_⊎_, inl, inr}
-use mathlib.Core.Bool.{true}
 use Prim.Native.Nat.{ℕ, _<_}
 use Rattle.grid.specs.Graph.{Near, Graph}
 use Rattle.chains.specs.Board.{mine, Board}
-use Rattle.chains.specs.Linked.{here, step}
+use Rattle.chains.specs.Linked.{here}
 use Rattle.chains.specs.Stands.{Stand}
-use Rattle.chains.specs.Computed.{is-state, reaches}
-use Rattle.chains.proofs.States.{is-none, is-mine, is-yours, kind, none-mine, mine-yours, is-state-true, state-is}
+use Rattle.chains.specs.Computed.{is-state}
+use Rattle.chains.proofs.States.{none-mine, is-state-true, state-is}
 use Rattle.chains.proofs.Below.{find}
-use Rattle.chains.proofs.Reach.{reaches-linked, linked-reaches, linked-or-not, linked-last, linked-trans, linked-sym}
+use Rattle.chains.proofs.Reach.{linked-or-not}
+use Rattle.chains.proofs.Chain.{joined-first}
 use Rattle.rooms.specs.Regions.{not-mine, One-room, Liberty, All-beside, Two-rooms, Few-rooms}
-use Rattle.rooms.specs.Safe.{Marks, Room, Safe}
-use Rattle.rooms.proofs.Bundle.{Vital-room, Room-pair, pairs-safe}
-use Rattle.rooms.proofs.Regions.{clear-cases, beside-below, liberty-or-not, all-beside-or-spare}
-
--- where a room is, there is no stone of mine
-pub room-clear : (b : Board) (p : ℕ) → not-mine b p ≡ true → b p ≡ mine → ⊥
-room-clear b p h m = elim (clear-cases b p h) [ inl z ↦ none-mine z m | inr y ↦ mine-yours m y ]
-
--- a stone of mine stands there, or none does
-pub mine-or-not : (b : Board) (p : ℕ) → (b p ≡ mine) ⊎ (not-mine b p ≡ true)
-mine-or-not b p = elim (kind (b p)) [ is-none z ↦ inr (cc) | is-mine m ↦ inl m | is-yours y ↦ inr (cc) ]
+use Rattle.rooms.specs.Safe.{Marks, Safe}
+use Rattle.rooms.specs.Striking.{Vital-to, Two-open}
+use Rattle.rooms.proofs.Regions.{beside-below, liberty-or-not, all-beside-or-spare}
+use Rattle.rooms.proofs.Rounds.{empty-clear, room-clear, mine-or-not, rest-safe}
 
 -- a liberty of the chain of c whose room is vital to that chain
 record Vital-liberty (near : Near) (b : Board) (c y : ℕ) : Type 0 where
@@ -87,59 +80,28 @@ two-or-few {n} {near} g b c =
 abbrev pub all-mine : Board → Marks
 all-mine b p = is-state mine (b p)
 
--- the room of y, as marks
-abbrev pub room-of : ℕ → Near → Board → ℕ → Marks
-room-of n near b y = reaches n near (not-mine b) y
-
--- a largest room is closed by stones of mine
-pub largest-room : {n : ℕ} {near : Near} → Graph n near → (b : Board) (y : ℕ) → Room near b (all-mine b) (room-of n near b y)
-largest-room {n} {near} g b y =
-    record {
-      clear = λ p i. room-clear b p (linked-last (linked p i));
-      closed = λ p q i next.
-          elim (mine-or-not b q) [
-            | inl m ↦ inr (state-is mine (b q) m)
-            | inr m ↦ inl (linked-reaches g (not-mine b) y q (step q (linked p i) next m))
-          ];
-    }
-  where
-    linked : (p : ℕ) → room-of n near b y p ≡ true → One-room near b y p
-    linked p i = reaches-linked g (not-mine b) y p i
-
--- and vital to a chain if one of its liberties lies in it and all its empty points are beside the chain
-pub largest-vital : {n : ℕ} {near : Near} → Graph n near → (b : Board) (c y : ℕ) → Liberty near b c y → All-beside near b c y → Vital-room near b (all-mine b) (room-of n near b y) c
-largest-vital {n} {near} g b c y l all =
-    record {
-      room = largest-room g b y;
-      vital = record {
-        some = y;
-        inside = linked-reaches g (not-mine b) y y (here (rw (l .is)));
-        empty = l .is;
-        beside = λ e i z.
-            let h = all e (reaches-linked g (not-mine b) y e i) z in
-            (h .stone, h .chain, h .next);
-      };
-    }
-
--- when every chain of mine has two rooms that are vital to it, all stones of mine together are safe
+-- when every chain of mine has two rooms that are vital to it, nothing can be struck, and all stones of mine together are safe
 pub all-safe : {n : ℕ} {near : Near} → Graph n near → (b : Board) → ((p : ℕ) → b p ≡ mine → Two-rooms near b p) → Safe near b (all-mine b)
 all-safe {n} {near} g b two-rooms =
-    pairs-safe
-    (λ p h. is-state-true mine (b p) h)
-    (λ p q h next m. state-is mine (b q) m)
-    (λ p h. pair p (two-rooms p (is-state-true mine (b p) h)))
+    rest-safe g
+    (record { stones = λ p h. is-state-true mine (b p) h; whole = λ p q h next m. state-is mine (b q) m })
+    (record { two-rooms = λ p h. two p (two-rooms p (is-state-true mine (b p) h)); walls = λ y below clear c w. state-is mine (b c) (joined-first (w .beside .chain)) })
   where
-    linked : (y q : ℕ) → room-of n near b y q ≡ true → One-room near b y q
-    linked y q i = reaches-linked g (not-mine b) y q i
+    vital : (p y : ℕ) → Liberty near b p y → All-beside near b p y → Vital-to near b p y
+    vital p y l all = record { point = y; inside = here (empty-clear b y (l .is)); is = l .is; all = all }
 
-    pair : (p : ℕ) → Two-rooms near b p → Room-pair near b (all-mine b) p
-    pair p t =
+    two : (p : ℕ) → Two-rooms near b p → Two-open n near b (not-mine b) p
+    two p t =
         record {
-          one = room-of n near b (t .one);
-          two = room-of n near b (t .two);
-          one-has = largest-vital g b p (t .one) (t .one-liberty) (t .one-vital);
-          two-has = largest-vital g b p (t .two) (t .two-liberty) (t .two-vital);
-          apart = λ q i j. t .apart (linked-trans (linked (t .one) q i) (linked-sym g (linked (t .two) q j)));
+          one = t .one;
+          two = t .two;
+          one-below = beside-below g (t .one-liberty .beside);
+          two-below = beside-below g (t .two-liberty .beside);
+          one-open = empty-clear b (t .one) (t .one-liberty .is);
+          two-open = empty-clear b (t .two) (t .two-liberty .is);
+          one-vital = vital p (t .one) (t .one-liberty) (t .one-vital);
+          two-vital = vital p (t .two) (t .two-liberty) (t .two-vital);
+          apart = t .apart;
         }
 
 -- all stones of mine together are safe, or some chain has at most one room that is vital to it

@@ -1,1 +1,3 @@
-//! placeholder
+//! Rooms of the judged side, and which of them are vital to which chains.
+
+pub mod room_set;

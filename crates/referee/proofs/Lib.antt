@@ -1,0 +1,11 @@
+pub mod Answered
+pub mod Boards
+pub mod Bytes
+pub mod Courses
+pub mod Decided
+pub mod Laws
+pub mod Steps
+pub mod Taken
+pub mod TwoPoints
+pub mod Unique
+pub mod Views
