@@ -58,6 +58,7 @@ pub looked-stands : (w h : ℕ) {cells : List ℕ} {marks : List Bool} {from : �
 looked-stands w h {cells} {from = from} m k = at-start from (λ z colour.
     stand-stands (none-found (graph w h) z (λ p s. view-byte (points w h) cells colour (view (points w h) cells colour p) p s refl .0) (looked-from m k colour) (omega arith)))
 
+-- and none is computed
 pub looked-none : (w h : ℕ) {cells : List ℕ} {marks : List Bool} {from : ℕ} → ((colour : Colour) → Breath-marks (near w h) (view (points w h) cells colour) marks) →
     Looked (points w h) cells marks from (points w h) →
     from-start from ((colour : Colour) → first-breathless (points w h) (near w h) (view (points w h) cells colour) ≡ points w h)

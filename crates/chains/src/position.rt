@@ -198,10 +198,13 @@ mod tests {
     use crate::colour::ColourDebug;
     use crate::colour::ColourPartialEq;
     use crate::labels::NO_POINT;
+    use crate::labels::label;
     use grid::refusal::RefusalDebug;
     use grid::refusal::RefusalPartialEq;
     use grid::size::Extent;
     use std::test::*;
+
+    const SIDE: usize = 19;
 
     fn sized(width: u8, height: u8) -> Result<Size, Fail> {
         let Some(columns) = Extent::new(width) else {
@@ -242,8 +245,9 @@ mod tests {
     fn snake() -> [u8; MAX_POINTS] {
         let mut cells = [EMPTY_BYTE; MAX_POINTS];
         for p in 0..MAX_POINTS {
-            let (row, column) = (p / 19, p % 19);
-            if row % 2 == 0 || row % 4 == 1 && column == 18 || row % 4 == 3 && column == 0 {
+            let (row, column) = (p / SIDE, p % SIDE);
+            let turn = if row % 4 == 1 { SIDE - 1 } else { 0 };
+            if row % 2 == 0 || column == turn {
                 cells[p] = BLACK_BYTE;
             }
         }
@@ -292,11 +296,22 @@ mod tests {
         check_eq(position.stands(), Err(Refusal::NoLiberty(2)))
     }
 
+    // Any classes can be labelled, not only the bytes of a board.
+    #[test]
+    fn classes_are_labelled() -> Result<(), Fail> {
+        let size = sized(4, 1)?;
+        let mut labels = [7; 4];
+        check(!label(size, &[1, 1, 2], 2, &mut labels))?;
+        check_eq(labels, [7; 4])?;
+        check(label(size, &[1, 1, 2, 1], 2, &mut labels))?;
+        check_eq(labels, [0, 0, NO_POINT, 3])
+    }
+
     #[test]
     fn refusals_come_in_order_and_change_nothing() -> Result<(), Fail> {
         check_eq(refused(2, 2, b"X?.")?, Refusal::TooShort(Lent::Points))?;
         check_eq(refused(2, 2, b"X.?x")?, Refusal::BadByte(4))?;
-        let position = board(2, 2, b"X..X?")?;
+        let position = board(2, 2, b"X.O.?")?;
         let mut labels = [7; 3];
         check_eq(
             position.chains(&mut labels),

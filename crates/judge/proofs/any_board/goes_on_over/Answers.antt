@@ -1,5 +1,7 @@
+use Rattle.judge.specs.AnyBoard.{Goes-on-over}
 use Rattle.judge.proofs.Judgement.{goes-on-over}
 use Rattle.judge.proofs.any_board.goes_on_over.Needs as need
 
 pub returns : need.returns
+unfolding Goes-on-over
 returns c = goes-on-over
