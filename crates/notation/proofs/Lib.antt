@@ -1,3 +1,4 @@
 mod Calm
+mod Points
 mod RoundTrip
 mod Rows

@@ -3,4 +3,5 @@
 pub mod board;
 pub mod failure;
 pub mod lines;
+pub mod point_lines;
 pub mod written;

@@ -10,10 +10,12 @@ ghost use lib.ListN.{take, drop};
 ghost use Rattle.std.specs.Of.String.{string-bytes};
 ghost use Rattle.std.specs.Vec.{made};
 ghost use Rattle.std.specs.Written.{decimal};
-ghost use Rattle.notation.specs.Lines.{shown, row-text, refusal-text};
+ghost use Rattle.notation.specs.Lines.{shown, row-text, refusal-text, outcome-text, counts-text};
+use chains::colour::Colour;
 use chains::colour::is_point;
 use grid::refusal::Refusal;
 use grid::size::Size;
+use referee::outcome::Outcome;
 use std::alloc::AllocError;
 use std::alloc::Global;
 
@@ -64,4 +66,29 @@ fn shown(byte: u8) -> char
     ensures ascii { λ r. ⌜ r < 128 ⌝ }
 {
     if is_point(byte) { byte as char } else { '?' }
+}
+
+/// How a record ends.
+pub fn outcome_line(heap: Global, outcome: Outcome) -> Result<String, AllocError>
+    ensures { λ r. ⌜ made r (λ text. string-bytes text ≡ outcome-text outcome) ⌝ }
+{
+    match outcome {
+        Outcome::ToMove(Colour::Black) => String::from_str(heap, "X to move"),
+        Outcome::ToMove(Colour::White) => String::from_str(heap, "O to move"),
+        Outcome::Over => String::from_str(heap, "over"),
+        Outcome::Refused(refusal) => refused_move(heap, refusal.place(), refusal.number()),
+    }
+}
+
+fn refused_move(heap: Global, turn: usize, number: usize) -> Result<String, AllocError>
+    ensures { λ r. ⌜ made r (λ text. string-bytes text ≡ codes "move " ++ (decimal turn ++ (codes " refused " ++ decimal number))) ⌝ }
+{
+    format!(heap, "move {turn} refused {number}")
+}
+
+/// How many stones of each colour are marked.
+pub fn counts_line(heap: Global, black: usize, white: usize) -> Result<String, AllocError>
+    ensures { λ r. ⌜ made r (λ text. string-bytes text ≡ counts-text black white) ⌝ }
+{
+    format!(heap, "X {black} O {white}")
 }
