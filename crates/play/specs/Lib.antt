@@ -1,3 +1,5 @@
 pub mod After
 pub mod Moves
 pub mod Played
+pub mod Steps
+pub mod Stone

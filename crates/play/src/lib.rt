@@ -1,3 +1,4 @@
-//! Moves of the other side.
+//! Moves: playing a stone, and what is proved of moves.
 
+pub mod stone;
 pub mod theorems;
