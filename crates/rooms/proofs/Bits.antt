@@ -11,7 +11,7 @@ use lib.Bits.{bitAnd, bitOr, and-step, or-step, and-shr, or-shr, and-mask}
 use lib.Count.{ones, ones-step, ones-le}
 use lib.Dec.{eqb, eqb·zero-suc, eqb·suc-zero, eqb·suc-suc}
 use lib.ListN.{getD, length, set, replicate, length-replicate}
-use lib.Pow.{shr-shr}
+use lib.Pow.{shr-shr, pow-lt}
 use Rattle.std.proofs.shelf.Lists.{getD-set-same, getD-set-other, getD-past, getD-replicate}
 use Rattle.std.proofs.shelf.Tests.{both-ways, cases-eq, cases-lt, eq-eqb, ne-eqb}
 use Rattle.chains.specs.Computed.{count}
@@ -159,6 +159,21 @@ pub member-past : (words : List ℕ) (i : ℕ) → length words * 64 ≤ i → m
 unfolding member
 member-past words i l = rw (getD-past words (i / 64) 0 (omega arith)) (bit-zero (i % 64))
 
+-- numbers of one word are told apart by their bits
+same-word : (i n : ℕ) → i / 64 ≡ n / 64 → eqb (i % 64) (n % 64) ≡ eqb i n
+same-word i n e = elim (cases-eq i n) [
+  | inl s ↦ rw (eq-eqb i n s) (eq-eqb (i % 64) (n % 64) (ap (λ (x : ℕ). x % 64) s))
+  | inr o ↦ rw (ne-eqb i n o) (ne-eqb (i % 64) (n % 64) (λ r. o (omega arith)))
+]
+
+or-none : (x : Bool) → (x || false) ≡ x
+or-none true = refl
+or-none false = refl
+
+and-all : (x : Bool) → (x && true) ≡ x
+and-all true = refl
+and-all false = refl
+
 -- a set with one number more
 pub member-insert : (words : List ℕ) (n i : ℕ) → n / 64 < length words →
     member (set words (n / 64) (bitOr (getD words (n / 64) 0) (2 ^ (n % 64)))) i ≡ (member words i || eqb i n)
@@ -166,20 +181,29 @@ unfolding member
 member-insert words n i l = elim (cases-eq (i / 64) (n / 64)) [
   | inl e ↦ member-set-here words (n / 64) (bitOr (getD words (n / 64) 0) (2 ^ (n % 64))) i l e
       ∙ bit-or (getD words (n / 64) 0) (2 ^ (n % 64)) (i % 64)
-      ∙ rw (bit-pow (n % 64) (i % 64), e, same-word e) refl
+      ∙ rw (bit-pow (n % 64) (i % 64), e, same-word i n e) refl
   | inr other ↦ member-set-other words (n / 64) (bitOr (getD words (n / 64) 0) (2 ^ (n % 64))) i other
       ∙ rw (ne-eqb i n (λ e. other (ap (λ (x : ℕ). x / 64) e))) (sym (or-none (member words i)))
 ]
-  where
-    same-word : i / 64 ≡ n / 64 → eqb (i % 64) (n % 64) ≡ eqb i n
-    same-word e = elim (cases-eq i n) [
-      | inl s ↦ rw (eq-eqb i n s) (eq-eqb (i % 64) (n % 64) (ap (λ (x : ℕ). x % 64) s))
-      | inr o ↦ rw (ne-eqb i n o) (ne-eqb (i % 64) (n % 64) (λ r. o (omega arith)))
-    ]
 
-    or-none : (x : Bool) → (x || false) ≡ x
-    or-none true = refl
-    or-none false = refl
+-- a set with one number less
+pub member-remove : (words : List ℕ) (n i : ℕ) → n / 64 < length words →
+    member (set words (n / 64) (bitAnd (getD words (n / 64) 0) (18446744073709551615 - 2 ^ (n % 64)))) i ≡ (member words i && not (eqb i n))
+unfolding member
+member-remove words n i l = elim (cases-eq (i / 64) (n / 64)) [
+  | inl e ↦ member-set-here words (n / 64) (bitAnd (getD words (n / 64) 0) (18446744073709551615 - 2 ^ (n % 64))) i l e
+      ∙ bit-and (getD words (n / 64) 0) (18446744073709551615 - 2 ^ (n % 64)) (i % 64)
+      ∙ rw (bit-not (2 ^ (n % 64)) (i % 64) (pow-lt {i = n % 64} {j = 64} (omega arith)) (omega arith), bit-pow (n % 64) (i % 64), e, same-word i n e) refl
+  | inr other ↦ member-set-other words (n / 64) (bitAnd (getD words (n / 64) 0) (18446744073709551615 - 2 ^ (n % 64))) i other
+      ∙ rw (ne-eqb i n (λ e. other (ap (λ (x : ℕ). x / 64) e))) (sym (and-all (member words i)))
+]
+
+-- a number that is not in the set is not there to be taken out
+pub member-without : (words : List ℕ) (n i : ℕ) → length words * 64 ≤ n → member words i ≡ (member words i && not (eqb i n))
+member-without words n i l = elim (cases-eq i n) [
+  | inl e ↦ (let h : member words i ≡ false = member-past words i (omega arith) in rw h refl)
+  | inr other ↦ rw (ne-eqb i n other) (sym (and-all (member words i)))
+]
 
 -- a set of words that are all zero has no number
 pub member-none : (n i : ℕ) → member (replicate n 0) i ≡ false

@@ -2,7 +2,9 @@ pub mod All
 pub mod Bits
 pub mod Bundle
 pub mod Counts
+pub mod Labels
 pub mod Numbered
+pub mod Passes
 pub mod Regions
 pub mod Rounds
 pub mod Sets

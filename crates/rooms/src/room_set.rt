@@ -36,6 +36,13 @@ impl RoomSet {
         }
     }
 
+    /// Takes a room out of the set.
+    pub fn remove(&mut self, room: usize)
+        ensures { λ _. ⌜ ((i : ℕ) → member (now (self .exit) .words) i ≡ (member (now (self .entry) .words) i && not (eqb i room))) ⌝ }
+    {
+        remove_room(&mut self.words, room);
+    }
+
     /// Whether a room is in the set. A number that is not below 384 is in none.
     pub fn contains(&self, room: usize) -> bool
         ensures value { λ r. ⌜ r ≡ member (now (self .entry) .words) room ⌝ }
@@ -70,6 +77,14 @@ fn insert_room(words: &mut [u64; 6], room: usize)
     ensures { λ _. ⌜ ((i : ℕ) → member (now (words .exit)) i ≡ (member (now (words .entry)) i || eqb i room)) ⌝ }
 {
     words[room / 64] = words[room / 64] | (1u64 << (room % 64));
+}
+
+fn remove_room(words: &mut [u64; 6], room: usize)
+    ensures { λ _. ⌜ ((i : ℕ) → member (now (words .exit)) i ≡ (member (now (words .entry)) i && not (eqb i room))) ⌝ }
+{
+    if room < ROOMS {
+        words[room / 64] = words[room / 64] & !(1u64 << (room % 64));
+    }
 }
 
 fn has_room(words: &[u64; 6], room: usize) -> bool
@@ -160,5 +175,18 @@ mod tests {
         check(set.contains(383))?;
         check_eq(set.shared(&struck), 0)?;
         check_eq(set.shared(&set), 2)
+    }
+
+    #[test]
+    fn a_room_is_taken_out() -> Result<(), Fail> {
+        let mut set = RoomSet::empty();
+        set.insert(63);
+        set.insert(64);
+        set.remove(63);
+        set.remove(65);
+        set.remove(1000);
+        check(!set.contains(63))?;
+        check(set.contains(64))?;
+        check_eq(set.shared(&set), 1)
     }
 }
