@@ -20,8 +20,8 @@ use Rattle.grid.specs.Refusals.{listed}
 use Rattle.grid.specs.declared.refusal.Refusal.{Refusal}
 use Rattle.grid.specs.declared.size.Size.{Size}
 use Rattle.chains.specs.Views.{is-point}
-use Rattle.notation.specs.Layout.{width-of, height-of, size-points, cells-of, good-front, calm-front, board-refusal, Board-read}
-use Rattle.notation.specs.Written.{good-points, write-refusal, board-bytes}
+use Rattle.notation.specs.Layout.{width-of, height-of, size-points, cells-of, calm-front, board-refusal, Board-read}
+use Rattle.notation.specs.Written.{write-refusal, board-bytes}
 
 -- what the list says of bytes that it does not turn away
 record Good (bytes : List ℕ) (lent : ℕ) : Type 0 where
@@ -29,7 +29,7 @@ record Good (bytes : List ℕ) (lent : ℕ) : Type 0 where
   high : side-fits (height-of bytes) ≡ true
   enough : size-points bytes ≤ lent
   count : length bytes - 2 ≡ size-points bytes
-  points : size-points bytes ≤ good-front bytes
+  points : size-points bytes ≤ leading is-point (cells-of bytes)
   calm : size-points bytes ≤ calm-front (width-of bytes) (height-of bytes) (cells-of bytes)
 
 good : (bytes : List ℕ) (lent : ℕ) → board-refusal bytes lent ≡ None → Good bytes lent
@@ -63,7 +63,7 @@ rewritten bytes before after size r = (none, same)
     long : n ≤ length after
     long = omega (arith, ap length (r .holds) ∙ length-append (cells-of bytes) (drop (size-points bytes) before), cells-length)
 
-    all-good : n ≤ good-points (size .width) (size .height) after
+    all-good : n ≤ leading is-point (take n after)
     all-good = omega (arith, g .points, n-is, ap (leading is-point) front)
 
     calm : n ≤ calm-front (size .width) (size .height) (take n after)

@@ -31,13 +31,16 @@ size-points bytes = points (width-of bytes) (height-of bytes)
 abbrev pub cells-of : List ℕ → List ℕ
 cells-of bytes = drop 2 bytes
 
--- how many of them, from the first on, are points
-abbrev pub good-front : List ℕ → ℕ
-good-front bytes = leading is-point (cells-of bytes)
-
 -- how many points of a board, from the first on, have no stone without a liberty
 abbrev pub calm-front : ℕ → ℕ → List ℕ → ℕ
 calm-front w h cells = first-breathless (points w h) (near w h) (view (points w h) cells Black)
+
+-- the first line of the list that turns the points of a board away, of which there are as many as it asks for
+abbrev pub cells-refusal : ℕ → ℕ → List ℕ → Option (ℕ × ℕ)
+cells-refusal w h cells =
+    unless (leb (points w h) (leading is-point cells)) (3, 2 + leading is-point cells)
+    (unless (leb (points w h) (calm-front w h cells)) (4, calm-front w h cells)
+    None)
 
 -- the first line of the list that turns the size away
 abbrev pub size-refusal : List ℕ → Option (ℕ × ℕ)
@@ -50,9 +53,7 @@ board-refusal bytes lent =
     (unless (side-fits (height-of bytes)) (1, 1)
     (unless (leb (size-points bytes) lent) (12, 0)
     (unless (eqb (length bytes - 2) (size-points bytes)) (2, length bytes - 2)
-    (unless (leb (size-points bytes) (good-front bytes)) (3, 2 + good-front bytes)
-    (unless (leb (size-points bytes) (calm-front (width-of bytes) (height-of bytes) (cells-of bytes))) (4, calm-front (width-of bytes) (height-of bytes) (cells-of bytes))
-    None)))))
+    (cells-refusal (width-of bytes) (height-of bytes) (cells-of bytes)))))
 
 -- a board of that size was read from the bytes: the lent memory holds its points, and what it held past them
 pub record Board-read (bytes before : List ℕ) (size : Size) (after : List ℕ) : Type 0 where

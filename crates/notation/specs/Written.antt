@@ -1,16 +1,14 @@
 -- Boards written as bytes, and why none were. Assumes nothing: these are definitions.
 use mathlib.Core.Path.{_≡_}
 use mathlib.Core.List.{List, _∷_, _++_}
-use Prim.Native.Nat.{ℕ, _+_}
+use Prim.Native.Nat.{ℕ}
 use lib.Dec.{leb}
 use lib.ListN.{length, take, drop}
 use Rattle.std.specs.declared.option.Option.{Option}
 use Rattle.std.specs.declared.option.Option.the-variants.{Some, None}
-use Rattle.std.specs.shelf.Lists.{leading}
 use Rattle.grid.specs.Grid.{points}
 use Rattle.grid.specs.Refusals.{listed, unless}
-use Rattle.chains.specs.Views.{is-point}
-use Rattle.notation.specs.Layout.{cells-of, size-points, calm-front}
+use Rattle.notation.specs.Layout.{cells-of, size-points, cells-refusal}
 use Rattle.notation.specs.declared.failure.Failure.{Failure}
 use Rattle.notation.specs.declared.failure.Failure.the-variants.{Refused, NoMemory}
 
@@ -19,17 +17,9 @@ abbrev pub Fails-by : Option (ℕ × ℕ) → Failure → Type 0
 Fails-by refusal (Refused e) = refusal ≡ Some (listed e)
 Fails-by refusal NoMemory = refusal ≡ None
 
--- how many of the points, from the first on, are points that a board may have
-abbrev pub good-points : ℕ → ℕ → List ℕ → ℕ
-good-points w h cells = leading is-point (take (points w h) cells)
-
 -- the first line of the list by which a board is not written
 abbrev pub write-refusal : ℕ → ℕ → List ℕ → Option (ℕ × ℕ)
-write-refusal w h cells =
-    unless (leb (points w h) (length cells)) (12, 0)
-    (unless (leb (points w h) (good-points w h cells)) (3, 2 + good-points w h cells)
-    (unless (leb (points w h) (calm-front w h (take (points w h) cells))) (4, calm-front w h (take (points w h) cells))
-    None))
+write-refusal w h cells = unless (leb (points w h) (length cells)) (12, 0) (cells-refusal w h (take (points w h) cells))
 
 -- the bytes of a board
 abbrev pub board-bytes : ℕ → ℕ → List ℕ → List ℕ

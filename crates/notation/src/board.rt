@@ -16,7 +16,7 @@ ghost use Rattle.chains.specs.Breath.{first-breathless};
 ghost use Rattle.chains.specs.Sized.{count-of, near-of, seen};
 ghost use Rattle.chains.specs.Views.{is-point};
 ghost use Rattle.notation.specs.Written.{write-refusal};
-ghost use Rattle.notation.specs.Layout.{width-of, height-of, size-refusal, board-refusal, Board-read};
+ghost use Rattle.notation.specs.Layout.{width-of, height-of, size-refusal, cells-refusal, board-refusal, Board-read};
 use chains::colour::Colour;
 use chains::position::Position;
 use chains::position::good_points;
@@ -43,14 +43,7 @@ pub fn read_board(bytes: &[u8], lent: &mut [u8]) -> Result<Size, Refusal>
     let Some(cells) = exactly(bytes, points) else {
         return Err(Refusal::Count(bytes.len().saturating_sub(SIZE_BYTES)));
     };
-    let good = good_points(cells);
-    let Some(cells) = whole(cells, good) else {
-        return Err(Refusal::BadByte(SIZE_BYTES + good));
-    };
-    let calm = calm_front(size, cells);
-    let Some(cells) = whole(cells, calm) else {
-        return Err(Refusal::NoLiberty(calm));
-    };
+    let cells = sound(size, cells)?;
     lent[0..points].copy_from_slice(cells);
     Ok(size)
 }
@@ -144,17 +137,14 @@ fn calm_front(size: Size, cells: &[u8]) -> usize
     }
 }
 
-/// The points of a board of that size, if there are enough of them and all are good.
-pub(crate) fn all_good(size: Size, cells: &[u8]) -> Result<&[u8], Refusal>
+/// The points, if they are points that can stand.
+pub(crate) fn sound(size: Size, cells: &[u8]) -> Result<&[u8], Refusal>
+    requires { ⌜ length (now cells) ≡ count-of size ⌝ }
     ensures { λ r. ⌜ elim r [
-      | Ok front ↦ (write-refusal (size .width) (size .height) (now (cells .entry)) ≡ None) × (now front ≡ take (points (size .width) (size .height)) (now (cells .entry)))
-      | Err e ↦ write-refusal (size .width) (size .height) (now (cells .entry)) ≡ Some (listed e)
+      | Ok same ↦ (cells-refusal (size .width) (size .height) (now (cells .entry)) ≡ None) × (now same ≡ now (cells .entry))
+      | Err e ↦ cells-refusal (size .width) (size .height) (now (cells .entry)) ≡ Some (listed e)
     ] ⌝ }
 {
-    let Some(points) = enough(size, cells.len()) else {
-        return Err(Refusal::TooShort(Lent::Points));
-    };
-    let cells = &cells[0..points];
     let good = good_points(cells);
     let Some(cells) = whole(cells, good) else {
         return Err(Refusal::BadByte(SIZE_BYTES + good));
@@ -164,4 +154,17 @@ pub(crate) fn all_good(size: Size, cells: &[u8]) -> Result<&[u8], Refusal>
         return Err(Refusal::NoLiberty(calm));
     };
     Ok(cells)
+}
+
+/// The points of a board of that size, if there are enough of them and they can stand.
+pub(crate) fn all_good(size: Size, cells: &[u8]) -> Result<&[u8], Refusal>
+    ensures { λ r. ⌜ elim r [
+      | Ok front ↦ (write-refusal (size .width) (size .height) (now (cells .entry)) ≡ None) × (now front ≡ take (points (size .width) (size .height)) (now (cells .entry)))
+      | Err e ↦ write-refusal (size .width) (size .height) (now (cells .entry)) ≡ Some (listed e)
+    ] ⌝ }
+{
+    let Some(points) = enough(size, cells.len()) else {
+        return Err(Refusal::TooShort(Lent::Points));
+    };
+    sound(size, &cells[0..points])
 }
