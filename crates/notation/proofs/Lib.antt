@@ -1,4 +1,5 @@
 mod Calm
 mod Points
+mod Records
 mod RoundTrip
 mod Rows

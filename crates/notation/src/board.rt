@@ -27,7 +27,7 @@ use grid::size::Extent;
 use grid::size::Size;
 
 /// The bytes before the points: the width and the height.
-const SIZE_BYTES: usize = 2;
+pub(crate) const SIZE_BYTES: usize = 2;
 
 /// Reads a board into lent memory, or says why not and leaves that memory as it was.
 pub fn read_board(bytes: &[u8], lent: &mut [u8]) -> Result<Size, Refusal>
@@ -44,12 +44,20 @@ pub fn read_board(bytes: &[u8], lent: &mut [u8]) -> Result<Size, Refusal>
         return Err(Refusal::Count(bytes.len().saturating_sub(SIZE_BYTES)));
     };
     let cells = sound(size, cells)?;
-    lent[0..points].copy_from_slice(cells);
+    place(cells, lent);
     Ok(size)
 }
 
+/// Writes the points into the front of the lent memory.
+pub(crate) fn place(cells: &[u8], lent: &mut [u8])
+    requires { ⌜ length (now cells) ≤ length (now lent) ⌝ }
+    ensures { λ _. ⌜ now (lent .exit) ≡ now (cells .entry) ++ drop (length (now (cells .entry))) (now (lent .entry)) ⌝ }
+{
+    lent[0..cells.len()].copy_from_slice(cells);
+}
+
 /// The size that the first two bytes give.
-fn read_size(bytes: &[u8]) -> Result<Size, Refusal>
+pub(crate) fn read_size(bytes: &[u8]) -> Result<Size, Refusal>
     ensures { λ r. ⌜ elim r [
       | Ok size ↦ (size-refusal (now (bytes .entry)) ≡ None) × (size .width ≡ width-of (now (bytes .entry))) × (size .height ≡ height-of (now (bytes .entry)))
       | Err e ↦ size-refusal (now (bytes .entry)) ≡ Some (listed e)

@@ -4,4 +4,5 @@ pub mod board;
 pub mod failure;
 pub mod lines;
 pub mod point_lines;
+pub mod record;
 pub mod written;

@@ -20,20 +20,11 @@ use Rattle.referee.specs.declared.moves.Move.the-variants.{Pass, At}
 use Rattle.referee.specs.declared.outcome.Outcome.{Outcome}
 use Rattle.referee.specs.declared.outcome.Outcome.the-variants.{ToMove, Over, Refused}
 use Rattle.referee.specs.declared.outcome.Answer.{Answer}
-use Rattle.referee.specs.Rules.{seen, mover, move-at, passes-before, Makes, Fault, First-fault, Allowed, Course, Ending, to-move, over, refused, taken-before, Refereed}
+use Rattle.referee.specs.Rules.{mover, move-at, passes-before, Makes, Fault, First-fault, Allowed, Course, Ending, to-move, over, refused, taken-before, Refereed}
+use Rattle.referee.specs.States.{next-board, boards-of}
 use Rattle.referee.proofs.Boards.{seen-is}
 use Rattle.referee.proofs.Courses.{course-stand, course-passes}
 use Rattle.referee.proofs.Decided.{fault-or-not, faultless-makes}
-
--- the board that a move makes, if it makes one
-abbrev pub next-board : ℕ → Near → Colour → Board → Move → Board
-next-board n near c b Pass = b
-next-board n near c b (At x) = seen (other c) (after n near (seen (other c) b) x)
-
--- the boards before each move, computed
-unfoldable pub boards-of : ℕ → Near → Board → List Move → ℕ → Board
-boards-of n near start ms zero = start
-boards-of n near start ms (suc k) = next-board n near (mover k) (boards-of n near start ms k) (move-at ms k)
 
 -- what a move makes is computed
 pub makes-next : {n : ℕ} {near : Near} → Graph n near → (c : Colour) (b d : Board) (m : Move) → Makes near c b m d → d ≡ next-board n near c b m

@@ -3,9 +3,12 @@ pub mod Boards
 pub mod Bytes
 pub mod Courses
 pub mod Decided
+pub mod Kept
 pub mod Laws
 pub mod Steps
 pub mod Taken
+pub mod Turned
 pub mod TwoPoints
 pub mod Unique
 pub mod Views
+pub mod Whole

@@ -17,29 +17,17 @@ use Rattle.referee.specs.declared.moves.Move.{Move}
 use Rattle.referee.specs.declared.moves.Move.the-variants.{Pass, At}
 use Rattle.referee.specs.declared.outcome.Outcome.{Outcome}
 use Rattle.referee.specs.declared.outcome.Outcome.the-variants.{ToMove, Over, Refused}
-use Rattle.referee.specs.declared.outcome.Answer.{Answer}
 use Rattle.referee.specs.Rules.{Same, mover, move-at, passes-with, passes-before, Played-by, Makes, Restores, Fault, off-board, occupied, suicide, ko, after-end, Course, Ending, to-move, over, refused, leaves, taken-before, Refereed}
+use Rattle.referee.specs.States.{boards-of, State-of, report}
 use Rattle.referee.proofs.Courses.{course-passes}
 use Rattle.referee.proofs.Decided.{from-five, from-six, from-seven, from-eight, from-nine, from-pass, from-end, first-from}
-use Rattle.referee.proofs.Answered.{boards-of, course-none, course-more}
+use Rattle.referee.proofs.Answered.{course-none, course-more}
 use Rattle.referee.proofs.Taken.{leaves-same, taken-most}
 
 -- whether a move is a stone
 abbrev pub is-stone : Move → Bool
 is-stone Pass = false
 is-stone (At x) = true
-
--- what is known after k allowed moves: whose turn it is, the board, whether the last move was a stone and the board before it,
--- how many passes stand at the end, and how many stones of each colour were taken
-pub record State-of (n : ℕ) (near : Near) (start : Board) (ms : List Move) (k : ℕ) (side : Colour) (board : Board) (stone : Bool) (before : Board) (passes black white : ℕ) : Type 0 where
-  pub course : Course n near start ms (boards-of n near start ms) k
-  pub side-is : side ≡ mover k
-  pub board-is : board ≡ boards-of n near start ms k
-  pub ko-to : (d : Board) → Restores ms (boards-of n near start ms) k d → (stone ≡ true) × (d ≡ before)
-  pub ko-from : stone ≡ true → Restores ms (boards-of n near start ms) k before
-  pub passes-are : passes ≡ passes-before ms k
-  pub black-are : black ≡ taken-before n Black (boards-of n near start ms) k
-  pub white-are : white ≡ taken-before n White (boards-of n near start ms) k
 
 -- before the first move
 pub state-start : (n : ℕ) (near : Near) (start : Board) (ms : List Move) (before : Board) → State-of n near start ms 0 Black start false before 0 0 0
@@ -149,10 +137,6 @@ state-passes {k = k} s = omega (arith, s .passes-are, course-passes k (s .course
 -- no more stones of a colour are taken than there are points and moves
 pub state-taken : {n : ℕ} {near : Near} {start : Board} {ms : List Move} {k : ℕ} {side : Colour} {board : Board} {stone : Bool} {before : Board} {passes black white : ℕ} → State-of n near start ms k side board stone before passes black white → (black ≤ n + k) × (white ≤ n + k)
 state-taken {k = k} s = (omega (arith, s .black-are, taken-most Black k (s .course)), omega (arith, s .white-are, taken-most White k (s .course)))
-
--- the answer of an outcome and three counts
-abbrev pub report : Outcome → ℕ → ℕ → ℕ → Answer
-report o passes black white = record { outcome = o; passes = passes; «black_taken» = black; «white_taken» = white }
 
 -- where the record ends, what is kept is its answer and its last board
 pub state-ends : {n : ℕ} {near : Near} {start : Board} {ms : List Move} {k : ℕ} {side : Colour} {board : Board} {stone : Bool} {before : Board} {passes black white : ℕ} {o : Outcome} → State-of n near start ms k side board stone before passes black white →

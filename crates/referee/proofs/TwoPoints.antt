@@ -22,9 +22,9 @@ use Rattle.referee.specs.declared.moves.Move.{Move}
 use Rattle.referee.specs.declared.moves.Move.the-variants.{At}
 use Rattle.referee.specs.Rules.{seen, Same, Played-by, leaves}
 use Rattle.referee.specs.Statements.{Two-point-ko}
+use Rattle.referee.specs.States.{next-board, State-of}
 use Rattle.referee.proofs.Boards.{board-back, makes-stand, stand-past}
-use Rattle.referee.proofs.Answered.{next-board}
-use Rattle.referee.proofs.Steps.{State-of, state-start, state-stone, state-numbers, refuse-ko}
+use Rattle.referee.proofs.Steps.{state-start, state-stone, state-numbers, refuse-ko}
 
 -- the computed board of a stone is its board if the stone breathes on it
 pub stone-next : {n : ℕ} {near : Near} → Graph n near → (c : Colour) (b : Board) (x : ℕ) → seen (other c) b x ≡ none → breathing n near (after n near (seen (other c) b) x) yours x ≡ true → Played-by near c b x (next-board n near c b (At x))

@@ -1,9 +1,10 @@
-//! Reads a record from standard input, as yet a board with no moves after it, and prints the board, a line a row.
+//! Referees a record from standard input: prints the last board, a line a row, and how the record ends.
 
 use grid::size::Size;
-use notation::board::read_board;
+use notation::lines::outcome_line;
 use notation::lines::refusal_line;
 use notation::lines::row_line;
+use notation::record::referee_record;
 use std::error::AnyError;
 use std::io::Read;
 
@@ -23,9 +24,10 @@ fn answer(rt: &LibcRuntime) -> Result<bool, AnyError> {
     let mut bytes = Vec::new(rt.alloc());
     rt.stdin().read_to_end(&mut bytes)?;
     let mut cells = [0; LENT_POINTS];
-    match read_board(&bytes, &mut cells) {
-        Ok(size) => {
-            print_rows(rt, size, &cells)?;
+    match referee_record(&bytes, &mut cells) {
+        Ok(answered) => {
+            print_rows(rt, answered.size, &cells)?;
+            rt.println(outcome_line(rt.alloc(), answered.answer.outcome)?)?;
             Ok(true)
         }
         Err(refusal) => {
