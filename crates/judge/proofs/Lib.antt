@@ -2,8 +2,10 @@ pub mod Alive
 pub mod Back
 pub mod Certificate
 pub mod Frame
-pub mod Judgement
+pub mod Gathering
 pub mod Marked
+pub mod OneJudgement
+pub mod Round
 pub mod SmallBoards
 pub mod Sound
 pub mod Square

@@ -1,5 +1,5 @@
 -- The marks that are left when the rounds of striking end are the judgement.
-use mathlib.Core.Path.{_≡_}
+use mathlib.Core.Path.{_≡_, sym, _∙_}
 use mathlib.Core.Bool.{true}
 use mathlib.Core.List.{List}
 use Prim.Native.Nat.{ℕ, _≤_}
@@ -51,3 +51,8 @@ pub judges-going : {n : ℕ} {near : Near} → Graph n near → {b : Board} {cha
     Judges-over near b (kept-by b chains kept)
 judges-going g {kept = kept} stand chain-labels room-labels going many =
     judges-settled g stand (kept-whole kept chain-labels) (going-end room-labels going many) (going .sound)
+
+-- marks that are the same at each point are judged the same
+pub judges-same : (w h : ℕ) (b : Board) (s t : Marks) → ((p : ℕ) → t p ≡ s p) → Judges w h b s → Judges w h b t
+unfolding Judges
+judges-same w h b s t same j p = (λ marked. j p .0 (sym (same p) ∙ marked), λ stays m. same p ∙ j p .1 stays m)

@@ -2,4 +2,6 @@
 
 pub mod any_board;
 pub mod boards;
+pub mod judgement;
 pub mod statements;
+mod striking;

@@ -1,4 +1,5 @@
 mod Calm
+mod Carried
 mod Points
 mod Records
 mod RoundTrip

@@ -1,3 +1,4 @@
+pub mod Judging
 pub mod Layout
 pub mod Lines
 pub mod Records

@@ -97,7 +97,7 @@ pub(crate) fn enough(size: Size, lent: usize) -> Option<usize>
 }
 
 /// The bytes after the size, if they are exactly so many.
-fn exactly(bytes: &[u8], points: usize) -> Option<&[u8]>
+pub(crate) fn exactly(bytes: &[u8], points: usize) -> Option<&[u8]>
     requires { ⌜ 1 ≤ points ⌝ }
     ensures { λ r. ⌜ elim r [
       | Some cells ↦ (now cells ≡ drop 2 (now (bytes .entry))) × (length (now cells) ≡ points) × (length (now (bytes .entry)) - 2 ≡ points)

@@ -2,6 +2,7 @@
 
 pub mod board;
 pub mod failure;
+pub mod judging;
 pub mod lines;
 pub mod point_lines;
 pub mod record;

@@ -1,5 +1,5 @@
 use Rattle.judge.specs.AnyBoard.{One-judgement-over}
-use Rattle.judge.proofs.Judgement.{one-judgement-over}
+use Rattle.judge.proofs.OneJudgement.{one-judgement-over}
 use Rattle.judge.proofs.any_board.one_judgement_over.Needs as need
 
 pub returns : need.returns

@@ -1,5 +1,5 @@
 use Rattle.judge.specs.Promise.{One-judgement}
-use Rattle.judge.proofs.Judgement.{one-judgement}
+use Rattle.judge.proofs.OneJudgement.{one-judgement}
 use Rattle.judge.proofs.statements.one_judgement.Needs as need
 
 pub returns : need.returns
