@@ -263,3 +263,19 @@ fn refusals() -> Result<(), Fail> {
         (0, 0, 0),
     )
 }
+
+// The same six moves over and over, each time taking what the others put: no limit on the number of moves.
+#[test]
+fn seventy_thousand_moves(rt: LibcRuntime) -> Result<(), Fail> {
+    let mut bytes = Vec::new(rt.alloc());
+    bytes.extend_from_slice(b"\x02\x02....\x00\x00\x01\x00")?;
+    for _ in 0..11_700 {
+        bytes.extend_from_slice(b"\x02\x00\x03\x00\x00\x00\x02\x00\x00\x00\x01\x00")?;
+    }
+    let mut lent = [BEFORE; 4];
+    match referee_record(&bytes, &mut lent) {
+        Ok(answered) => check_eq(answered.answer.outcome, Outcome::ToMove(Colour::Black))?,
+        Err(_) => return Err(Fail::new("refused")),
+    }
+    check_eq(lent, *b"XO..")
+}

@@ -1,9 +1,9 @@
-//! Reads a board from standard input and prints it, a line a row.
+//! Judges a board from standard input: prints the marked points of each colour.
 
-use grid::size::Size;
-use notation::board::read_board;
+use chains::colour::Colour;
+use notation::judging::judge_board;
 use notation::lines::refusal_line;
-use notation::lines::row_line;
+use notation::point_lines::marks_line;
 use std::error::AnyError;
 use std::io::Read;
 
@@ -22,10 +22,16 @@ fn main(rt: LibcRuntime) -> Result<(), AnyError> {
 fn answer(rt: &LibcRuntime) -> Result<bool, AnyError> {
     let mut bytes = Vec::new(rt.alloc());
     rt.stdin().read_to_end(&mut bytes)?;
+    Ok(print_marks(rt, &bytes, Colour::Black)? && print_marks(rt, &bytes, Colour::White)?)
+}
+
+fn print_marks(rt: &LibcRuntime, bytes: &[u8], colour: Colour) -> Result<bool, AnyError> {
     let mut cells = [0; LENT_POINTS];
-    match read_board(&bytes, &mut cells) {
-        Ok(size) => {
-            print_rows(rt, size, &cells)?;
+    let mut chains = [0; LENT_POINTS];
+    let mut rooms = [0; LENT_POINTS];
+    match judge_board(bytes, colour, &mut cells, &mut chains, &mut rooms) {
+        Ok(judged) => {
+            rt.println(marks_line(rt.alloc(), colour, &judged.marks.entries())?)?;
             Ok(true)
         }
         Err(refusal) => {
@@ -33,11 +39,4 @@ fn answer(rt: &LibcRuntime) -> Result<bool, AnyError> {
             Ok(false)
         }
     }
-}
-
-fn print_rows(rt: &LibcRuntime, size: Size, cells: &[u8]) -> Result<(), AnyError> {
-    for row in 0..size.height() {
-        rt.println(row_line(rt.alloc(), size, cells, row)?)?;
-    }
-    Ok(())
 }

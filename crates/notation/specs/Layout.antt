@@ -1,8 +1,8 @@
 -- A board as bytes: its width, its height, then a byte for each point in reading order. Assumes nothing: these are definitions.
 use mathlib.Core.Path.{_≡_}
-use mathlib.Core.Bool.{Bool, cond}
+use mathlib.Core.Bool.{Bool, _&&_, cond}
 use mathlib.Core.List.{List, _++_}
-use Prim.Native.Nat.{ℕ, _+_, _-_}
+use Prim.Native.Nat.{ℕ, _+_, _-_, min}
 use lib.Dec.{leb, eqb}
 use lib.ListN.{length, getD, drop}
 use Rattle.std.specs.declared.option.Option.{Option}
@@ -45,6 +45,10 @@ cells-refusal w h cells =
 -- the first line of the list that turns the size away
 abbrev pub size-refusal : List ℕ → Option (ℕ × ℕ)
 size-refusal bytes = unless (side-fits (width-of bytes)) (1, 0) (unless (side-fits (height-of bytes)) (1, 1) None)
+
+-- how many bytes the first of several boards has
+abbrev pub first-length : List ℕ → ℕ
+first-length bytes = cond (side-fits (width-of bytes) && side-fits (height-of bytes)) (min (2 + size-points bytes) (length bytes)) (length bytes)
 
 -- the first line of the list that turns the bytes of a board away, with so much memory lent for its points
 abbrev pub board-refusal : List ℕ → ℕ → Option (ℕ × ℕ)

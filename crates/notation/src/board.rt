@@ -16,7 +16,7 @@ ghost use Rattle.chains.specs.Breath.{first-breathless};
 ghost use Rattle.chains.specs.Sized.{count-of, near-of, seen};
 ghost use Rattle.chains.specs.Views.{is-point};
 ghost use Rattle.notation.specs.Written.{write-refusal};
-ghost use Rattle.notation.specs.Layout.{width-of, height-of, size-refusal, cells-refusal, board-refusal, Board-read};
+ghost use Rattle.notation.specs.Layout.{width-of, height-of, first-length, size-refusal, cells-refusal, board-refusal, Board-read};
 use chains::colour::Colour;
 use chains::position::Position;
 use chains::position::good_points;
@@ -175,4 +175,16 @@ pub(crate) fn all_good(size: Size, cells: &[u8]) -> Result<&[u8], Refusal>
         return Err(Refusal::TooShort(Lent::Points));
     };
     sound(size, &cells[0..points])
+}
+
+/// How many bytes, from the first on, are those of the first of several boards: its size and its points, or all where these are
+/// not there.
+pub fn board_length(bytes: &[u8]) -> usize
+    ensures value { λ r. ⌜ r ≡ first-length (now (bytes .entry)) ⌝ }
+    ensures bounds { λ r. ⌜ (r ≤ length (now (bytes .entry))) × (1 ≤ length (now (bytes .entry)) → 1 ≤ r) ⌝ }
+{
+    match read_size(bytes) {
+        Ok(size) => (SIZE_BYTES + size.points()).min(bytes.len()),
+        Err(_) => bytes.len(),
+    }
 }

@@ -1,12 +1,13 @@
 //! Judges a board from its bytes.
 
-ghost use mathlib.Core.Bool.{true};
+ghost use mathlib.Core.Bool.{Bool};
 ghost use mathlib.Core.List.{_++_};
 ghost use mathlib.Core.Path.{_≡_};
 ghost use Prim.Native.Nat.{_≤_};
 ghost use lib.ListN.{length};
 ghost use Rattle.std.specs.declared.option.Option.the-variants.{Some, None};
 ghost use Rattle.std.specs.declared.result.Result.the-variants.{Ok, Err};
+ghost use Rattle.std.specs.shelf.Lists.{countBy};
 ghost use Rattle.grid.specs.Refusals.{listed};
 ghost use Rattle.chains.specs.Sized.{count-of, seen};
 ghost use Rattle.notation.specs.Judging.{judge-bytes-refusal, Judged-so, Board-judged};
@@ -87,4 +88,23 @@ fn judge_cells(
         },
         Err(_) => unreachable(),
     }
+}
+
+/// How many stones are marked.
+pub fn marked_stones(marks: Marks) -> usize
+    ensures { λ r. ⌜ r ≡ countBy (λ (b : Bool). b) (marks .marked) ⌝ }
+{
+    count_marks(&marks.entries())
+}
+
+fn count_marks(marked: &[bool]) -> usize
+    ensures { λ r. ⌜ r ≡ countBy (λ (b : Bool). b) (now (marked .entry)) ⌝ }
+{
+    let mut count = 0;
+    for mark in marked {
+        if *mark {
+            count += 1;
+        }
+    }
+    count
 }
