@@ -1,0 +1,5 @@
+pub mod Auditing
+pub mod Row
+pub mod Showing
+pub mod Statements
+pub mod Target
