@@ -1,171 +1,278 @@
-// The judge on the boards whose judgement is known.
-use crate::drawing::board;
-use crate::memory::{ENTRY_BEFORE, Lengths, Memory};
-use crate::table::{COLOURS, known_boards};
+// The judge on boards whose judgement is known, each also with its colours exchanged.
 use chains::colour::Colour;
-use chains::labels::{MAX_POINTS, NO_POINT};
-use chains::position::Position;
-use grid::refusal::{Lent, Refusal, Side};
-use judge::judgement::judge;
+use grid::refusal::{Lent, Refusal};
 use notation::judging::judge_board;
 use notation::point_lines::marks_line;
-use notation::written::write_board;
 use std::alloc::Global;
 use std::process::Abort;
-use std::test::*;
+use std::test::Fail;
 
-// The line that the judging program prints for the stones of one colour ends in this list.
-fn printed(
+// The most points of a board here.
+const POINTS: usize = 24;
+
+// What the lent memory holds before each judgement.
+const BEFORE: u8 = b'#';
+
+const NO_ENTRY: u16 = 7;
+
+fn side(
     rt: &impl Abort,
     heap: Global,
-    position: Position,
+    bytes: &[u8],
     colour: Colour,
-    list: &str,
+    line: &str,
 ) -> Result<(), Fail> {
-    let mut memory = Memory::new();
-    let bytes = write_board(heap, position.size(), &position.cells())?;
-    let Ok(judged) = judge_board(
-        &bytes,
-        colour,
-        &mut memory.points,
-        &mut memory.chains,
-        &mut memory.rooms,
-    ) else {
-        return Err(Fail::new("refused"));
-    };
-    let line = match colour {
-        Colour::Black => format!(in heap; "X {list}")?,
-        Colour::White => format!(in heap; "O {list}")?,
-    };
-    assert_eq!(rt;
-        marks_line(heap, colour, &judged.marks().entries())?.as_str(),
-        line.as_str()
-    );
-    Ok(())
+    let mut cells = [BEFORE; POINTS];
+    let mut chains = [NO_ENTRY; POINTS];
+    let mut rooms = [NO_ENTRY; POINTS];
+    match judge_board(bytes, colour, &mut cells, &mut chains, &mut rooms) {
+        Ok(judged) => {
+            assert_eq!(rt;
+                marks_line(heap, colour, &judged.marks.entries())?.as_str(),
+                line
+            );
+            Ok(())
+        },
+        Err(_) => Err(Fail::new("refused")),
+    }
 }
 
-// These stones of one colour are marked, and no others.
+// The board and the two lines that the judging program prints first.
 fn judged(
     rt: &impl Abort,
-    position: Position,
-    colour: Colour,
-    marked: [bool; MAX_POINTS],
+    heap: Global,
+    bytes: &[u8],
+    black: &str,
+    white: &str,
 ) -> Result<(), Fail> {
-    let mut memory = Memory::new();
-    let Ok(marks) = judge(position, colour, &mut memory.chains, &mut memory.rooms) else {
-        return Err(Fail::new("refused"));
-    };
-    assert_eq!(rt; marks.entries(), marked);
-    for p in 0..MAX_POINTS {
-        assert_eq!(rt; marks.has(p), marked[p]);
-    }
-    assert!(rt; !marks.has(MAX_POINTS));
-    Ok(())
+    side(rt, heap, bytes, Colour::Black, black)?;
+    side(rt, heap, bytes, Colour::White, white)
 }
 
 #[test]
-fn all_boards(rt: HostRuntime) -> Result<(), Fail> {
-    for colour in COLOURS {
-        for known in known_boards() {
-            let position = known.board(colour)?;
-            judged(&rt, position, colour, known.marks()?)?;
-            judged(&rt, position, colour.other(), [false; MAX_POINTS])?;
-            printed(&rt, rt.alloc(), position, colour, known.marked)?;
-            printed(&rt, rt.alloc(), position, colour.other(), "none")?;
-        }
-    }
-    Ok(())
+fn known_boards(rt: HostRuntime) -> Result<(), Fail> {
+    let heap = rt.alloc();
+    judged(&rt, heap, b"\x05\x01.X.X.", "X 1 3", "O none")?;
+    judged(&rt, heap, b"\x06\x01.X..X.", "X none", "O none")?;
+    judged(&rt, heap, b"\x03\x03.X.X.X.X.", "X 1 3 5 7", "O none")?;
+    judged(
+        &rt,
+        heap,
+        b"\x04\x03.XX.X.X..XX.",
+        "X 1 2 4 6 9 10",
+        "O none",
+    )?;
+    judged(
+        &rt,
+        heap,
+        b"\x04\x03.X.XXXXX....",
+        "X 1 3 4 5 6 7",
+        "O none",
+    )?;
+    judged(&rt, heap, b"\x03\x03..X..XXXX", "X none", "O none")?;
+    judged(&rt, heap, b"\x03\x03.XOXXOOO.", "X none", "O none")?;
+    judged(
+        &rt,
+        heap,
+        b"\x06\x04.XX.XOXX.XXO.XXXOOXXOOO.",
+        "X 1 2 4 6 7 9 10 13 14 15 18 19",
+        "O none",
+    )?;
+    judged(
+        &rt,
+        heap,
+        b"\x04\x03X.XO.XXOXXO.",
+        "X 0 2 5 6 8 9",
+        "O none",
+    )?;
+    judged(
+        &rt,
+        heap,
+        b"\x04\x04.X..XXXX..X...XX",
+        "X 1 4 5 6 7 10 14 15",
+        "O none",
+    )?;
+    judged(
+        &rt,
+        heap,
+        b"\x05\x03XX.XXX.X.XXX.XX",
+        "X 0 1 3 4 5 7 9 10 11 13 14",
+        "O none",
+    )?;
+    judged(
+        &rt,
+        heap,
+        b"\x05\x03.O.X.OOOXX...X.",
+        "X 3 8 9 13",
+        "O none",
+    )?;
+    judged(&rt, heap, b"\x04\x02........", "X none", "O none")?;
+    judged(
+        &rt,
+        heap,
+        b"\x04\x03..XXXXXX....",
+        "X 2 3 4 5 6 7",
+        "O none",
+    )?;
+    judged(
+        &rt,
+        heap,
+        b"\x05\x04XX.O.O.O.XX.OX.XXX.X",
+        "X none",
+        "O none",
+    )?;
+    judged(
+        &rt,
+        heap,
+        b"\x04\x04XXOOXXX..XXXOXXX",
+        "X 0 1 4 5 6 9 10 11 13 14 15",
+        "O none",
+    )
 }
 
 #[test]
-fn labels_are_written(rt: HostRuntime) -> Result<(), Fail> {
-    let mut chains = [ENTRY_BEFORE; 6];
-    let mut rooms = [ENTRY_BEFORE; 6];
-    assert!(rt; judge(board(".X.O.")?, Colour::Black, &mut chains, &mut rooms).is_ok());
-    let none = NO_POINT;
-    assert_eq!(rt; chains, [none, 1, none, 3, none, ENTRY_BEFORE]);
-    assert_eq!(rt; rooms, [0, none, 2, 2, 2, ENTRY_BEFORE]);
-    Ok(())
+fn boards_that_catch_wrong_judges(rt: HostRuntime) -> Result<(), Fail> {
+    let heap = rt.alloc();
+    judged(&rt, heap, b"\x06\x01.X.X.X", "X none", "O none")?;
+    judged(&rt, heap, b"\x08\x01.X.X.X.X", "X none", "O none")?;
+    judged(&rt, heap, b"\x02\x02.XO.", "X none", "O none")?;
+    judged(&rt, heap, b"\x06\x01.X.OX.", "X none", "O none")
+}
+
+#[test]
+fn colours_exchanged(rt: HostRuntime) -> Result<(), Fail> {
+    let heap = rt.alloc();
+    judged(&rt, heap, b"\x05\x01.O.O.", "X none", "O 1 3")?;
+    judged(&rt, heap, b"\x06\x01.O..O.", "X none", "O none")?;
+    judged(&rt, heap, b"\x03\x03.O.O.O.O.", "X none", "O 1 3 5 7")?;
+    judged(
+        &rt,
+        heap,
+        b"\x04\x03.OO.O.O..OO.",
+        "X none",
+        "O 1 2 4 6 9 10",
+    )?;
+    judged(
+        &rt,
+        heap,
+        b"\x04\x03.O.OOOOO....",
+        "X none",
+        "O 1 3 4 5 6 7",
+    )?;
+    judged(&rt, heap, b"\x03\x03..O..OOOO", "X none", "O none")?;
+    judged(&rt, heap, b"\x03\x03.OXOOXXX.", "X none", "O none")?;
+    judged(
+        &rt,
+        heap,
+        b"\x06\x04.OO.OXOO.OOX.OOOXXOOXXX.",
+        "X none",
+        "O 1 2 4 6 7 9 10 13 14 15 18 19",
+    )?;
+    judged(
+        &rt,
+        heap,
+        b"\x04\x03O.OX.OOXOOX.",
+        "X none",
+        "O 0 2 5 6 8 9",
+    )?;
+    judged(
+        &rt,
+        heap,
+        b"\x04\x04.O..OOOO..O...OO",
+        "X none",
+        "O 1 4 5 6 7 10 14 15",
+    )?;
+    judged(
+        &rt,
+        heap,
+        b"\x05\x03OO.OOO.O.OOO.OO",
+        "X none",
+        "O 0 1 3 4 5 7 9 10 11 13 14",
+    )?;
+    judged(
+        &rt,
+        heap,
+        b"\x05\x03.X.O.XXXOO...O.",
+        "X none",
+        "O 3 8 9 13",
+    )?;
+    judged(&rt, heap, b"\x04\x02........", "X none", "O none")?;
+    judged(
+        &rt,
+        heap,
+        b"\x04\x03..OOOOOO....",
+        "X none",
+        "O 2 3 4 5 6 7",
+    )?;
+    judged(
+        &rt,
+        heap,
+        b"\x05\x04OO.X.X.X.OO.XO.OOO.O",
+        "X none",
+        "O none",
+    )?;
+    judged(
+        &rt,
+        heap,
+        b"\x04\x04OOXXOOO..OOOXOOO",
+        "X none",
+        "O 0 1 4 5 6 9 10 11 13 14 15",
+    )
 }
 
 fn refused(
     rt: &impl Abort,
-    position: Position,
-    lent: Lengths,
-    expected: Refusal,
-) -> Result<(), Fail> {
-    let mut memory = Memory::new();
-    assert!(rt; lent.chains <= MAX_POINTS && lent.rooms <= MAX_POINTS);
-    match judge(
-        position,
-        Colour::Black,
-        &mut memory.chains[0..lent.chains],
-        &mut memory.rooms[0..lent.rooms],
-    ) {
-        Ok(_) => return Err(Fail::new("judged")),
-        Err(refusal) => assert_eq!(rt; refusal, expected),
-    }
-    memory.untouched()
-}
-
-// Lent memory is looked at before the board.
-#[test]
-fn refusals(rt: HostRuntime) -> Result<(), Fail> {
-    let chains = Lengths::all(3).with(Lent::Chains, 4);
-    let cases: [(Lengths, Refusal); 3] = [
-        (Lengths::all(3), Refusal::TooShort(Lent::Chains)),
-        (chains, Refusal::TooShort(Lent::Rooms)),
-        (Lengths::all(4), Refusal::NoLiberty(2)),
-    ];
-    for (lent, expected) in cases {
-        refused(&rt, board(".XOX")?, lent, expected)?;
-    }
-    Ok(())
-}
-
-fn bytes_refused(
-    rt: &impl Abort,
     bytes: &[u8],
-    lent: Lengths,
+    lent: usize,
+    entries: (usize, usize),
     expected: Refusal,
 ) -> Result<(), Fail> {
-    let mut memory = Memory::new();
-    assert!(rt; lent.points <= MAX_POINTS && lent.chains <= MAX_POINTS && lent.rooms <= MAX_POINTS);
+    let mut cells = [BEFORE; POINTS];
+    let mut chains = [NO_ENTRY; POINTS];
+    let mut rooms = [NO_ENTRY; POINTS];
+    assert!(rt; lent <= POINTS && entries.0 <= POINTS && entries.1 <= POINTS);
     match judge_board(
         bytes,
         Colour::White,
-        &mut memory.points[0..lent.points],
-        &mut memory.chains[0..lent.chains],
-        &mut memory.rooms[0..lent.rooms],
+        &mut cells[0..lent],
+        &mut chains[0..entries.0],
+        &mut rooms[0..entries.1],
     ) {
         Ok(_) => return Err(Fail::new("judged")),
         Err(refusal) => assert_eq!(rt; refusal, expected),
     }
-    memory.untouched()
+    assert_eq!(rt; cells, [BEFORE; POINTS]);
+    assert_eq!(rt; chains, [NO_ENTRY; POINTS]);
+    assert_eq!(rt; rooms, [NO_ENTRY; POINTS]);
+    Ok(())
 }
 
 // All memory is asked for before the points are counted, and nothing is written before the last check.
 #[test]
-fn refusals_of_bytes(rt: HostRuntime) -> Result<(), Fail> {
-    let all = Lengths::all(3);
-    let points = Lengths::all(2).with(Lent::Points, 3);
-    let both = points.with(Lent::Chains, 3);
-    let cases: [(&[u8], Lengths, Refusal); 8] = [
-        (b"\x14\x00", Lengths::all(0), Refusal::BadSide(Side::Width)),
-        (b"\x03\x00", Lengths::all(0), Refusal::BadSide(Side::Height)),
-        (
-            b"\x03\x01X",
-            Lengths::all(2),
-            Refusal::TooShort(Lent::Points),
-        ),
-        (b"\x03\x01X", points, Refusal::TooShort(Lent::Chains)),
-        (b"\x03\x01X", both, Refusal::TooShort(Lent::Rooms)),
-        (b"\x03\x01X", all, Refusal::Count(1)),
-        (b"\x03\x01XO?", all, Refusal::BadByte(4)),
-        (b"\x03\x01XO.", all, Refusal::NoLiberty(0)),
-    ];
-    for (bytes, lent, expected) in cases {
-        bytes_refused(&rt, bytes, lent, expected)?;
-    }
-    Ok(())
+fn refusals(rt: HostRuntime) -> Result<(), Fail> {
+    refused(
+        &rt,
+        b"\x03\x00",
+        24,
+        (24, 24),
+        Refusal::BadSide(grid::refusal::Side::Height),
+    )?;
+    refused(
+        &rt,
+        b"\x03\x01X",
+        2,
+        (2, 2),
+        Refusal::TooShort(Lent::Points),
+    )?;
+    refused(
+        &rt,
+        b"\x03\x01X",
+        3,
+        (2, 2),
+        Refusal::TooShort(Lent::Chains),
+    )?;
+    refused(&rt, b"\x03\x01X", 3, (3, 2), Refusal::TooShort(Lent::Rooms))?;
+    refused(&rt, b"\x03\x01X", 3, (3, 3), Refusal::Count(1))?;
+    refused(&rt, b"\x03\x01XO?", 3, (3, 3), Refusal::BadByte(4))?;
+    refused(&rt, b"\x03\x01XO.", 3, (3, 3), Refusal::NoLiberty(0))
 }

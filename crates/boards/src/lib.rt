@@ -1,24 +1,10 @@
-//! Tests of judging, showing and auditing, on the boards whose judgement is known and from bytes.
+//! Tests over all crates: examples that are run and compared.
 
-#[cfg(test)]
-mod auditing;
-#[cfg(test)]
-mod auditing_bytes;
-#[cfg(test)]
-mod drawing;
-#[cfg(test)]
-mod faulty_bytes;
-#[cfg(test)]
-mod judgements;
+#![tactic(auto)]
+
 #[cfg(test)]
 mod judging;
 #[cfg(test)]
-mod memory;
+mod reading;
 #[cfg(test)]
-mod rows;
-#[cfg(test)]
-mod showing;
-#[cfg(test)]
-mod showing_bytes;
-#[cfg(test)]
-mod table;
+mod records;

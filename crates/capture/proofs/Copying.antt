@@ -43,13 +43,13 @@ rooms_copied {n} {near} g {b} {xs} {ys} same l =
     reached below way = elim (linked_below g way) [ inl e ↦ subst (λ (i : ℕ). i < n) (sym e) below | inr h ↦ h ]
 
 -- the labels of a position, copied into lent memory
-pub labels_copied : (size : Size) (cells : List ℕ) {colour : Colour} {chains rooms old_chains old_rooms new_chains new_rooms : List ℕ} (k : ℕ) → k ≡ count_of size →
+pub labels_copied : {size : Size} {cells : List ℕ} {colour : Colour} {chains rooms old_chains old_rooms new_chains new_rooms : List ℕ} (k : ℕ) → k ≡ count_of size →
     ((side : Colour) → Stands size.width size.height (seen size cells side)) →
     ((side : Colour) → ChainLabels (count_of size) (near_of size) (seen size cells side) chains) → RoomLabels (count_of size) (near_of size) (seen size cells colour) rooms →
     ((p : ℕ) → p < k → get_or new_chains p 0 ≡ get_or chains p 0) → drop k new_chains ≡ drop k old_chains →
     ((p : ℕ) → p < k → get_or new_rooms p 0 ≡ get_or rooms p 0) → drop k new_rooms ≡ drop k old_rooms →
     LabelsWritten size cells colour old_chains old_rooms new_chains new_rooms
-labels_copied size cells {old_chains = old_chains} {old_rooms = old_rooms} {new_chains = new_chains} {new_rooms = new_rooms} k e stands chained roomed same_chains past_chains same_rooms past_rooms =
+labels_copied {size} {old_chains = old_chains} {old_rooms = old_rooms} {new_chains = new_chains} {new_rooms = new_rooms} k e stands chained roomed same_chains past_chains same_rooms past_rooms =
     record {
       chained = λ side. chains_copied (stands side).inside (λ p l. same_chains p (omega arith)) (chained side);
       roomed = rooms_copied (graph size.width size.height) (λ p l. same_rooms p (omega arith)) roomed;

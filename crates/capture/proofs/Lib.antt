@@ -5,5 +5,4 @@ pub mod Aiming
 pub mod Phases
 pub mod Fate
 pub mod Copying
-pub mod Carrying
 pub mod Verdicts

@@ -33,17 +33,14 @@ is_mark byte = nat_le byte 1
 abbrev pub marked_by : List ℕ → Marks
 marked_by marks p = slice_index marks p == 1
 
--- the lines on marks of a board of n points: a colour that is none, a count of bytes that is not that of the points, and the first byte that is no mark
-abbrev pub mark_lines : ℕ → ℕ → List ℕ → Option (ℕ × ℕ)
-mark_lines n number marks =
-    unless (nat_le number 1) (10, 0)
-    (unless (length marks == n) (10, length marks)
-    (unless (nat_le (length marks) (prefix_len is_mark marks)) (10, prefix_len is_mark marks)
-    None))
-
--- why marks are not audited: the lines on memory and board, then those on marks
+-- why marks are not audited: the lines on memory and board, then a colour that is none, a count of bytes that is not that of the points, and the first byte that is no mark
 abbrev pub audit_refusal : Size → List ℕ → ℕ → List ℕ → ℕ → ℕ → ℕ → Option (ℕ × ℕ)
-audit_refusal size cells number marks chains rooms moves = memory_refusal size cells chains rooms moves (mark_lines (count_of size) number marks)
+audit_refusal size cells number marks chains rooms moves =
+    memory_refusal size cells chains rooms moves
+    (unless (nat_le number 1) (10, 0)
+    (unless (length marks == count_of size) (10, length marks)
+    (unless (nat_le (length marks) (prefix_len is_mark marks)) (10, prefix_len is_mark marks)
+    None)))
 
 -- none of these lines applies, and the number is that of the colour
 pub record Auditable (size : Size) (cells : List ℕ) (number : ℕ) (marks : List ℕ) (chains rooms moves : ℕ) (colour : Colour) : Type 0 where

@@ -1,5 +1,4 @@
 pub mod Auditing
-pub mod Judged
 pub mod Row
 pub mod Showing
 pub mod Statements

@@ -1,12 +1,11 @@
 -- Showing how a stone is taken: why not, and what is written. Assumes nothing: these are definitions.
 use Rattle.std.specs.Prelude.{◌≡◌, ℕ, ◌≤◌, ◌⊎◌, List, length, drop, is_some, Some, None, Option, nat_le}
-use Rattle.grid.specs.Grid.{points, near}
 use Rattle.grid.specs.Refusals.{listed, unless}
 use Rattle.grid.specs.declared.refusal.Refusal.{Refusal}
 use Rattle.grid.specs.declared.refusal.Refusal.TheVariants.{NotShown}
 use Rattle.grid.specs.declared.refusal.Untaken.TheVariants.{Marked}
 use Rattle.grid.specs.declared.size.Size.{Size}
-use Rattle.chains.specs.Board.{mine, Board}
+use Rattle.chains.specs.Board.{mine}
 use Rattle.chains.specs.Breath.{first_breathless}
 use Rattle.chains.specs.Labels.{ChainLabels}
 use Rattle.chains.specs.Sized.{count_of, near_of, seen}
@@ -47,15 +46,12 @@ pub record Admitted (size : Size) (cells : List ℕ) (point chains rooms moves :
   pub there : standing (count_of size) cells point ≡ Some colour
   pub stone : seen size cells colour point ≡ mine
 
--- the chains of both colours and the rooms of the side of that colour are written, on the board that each side sees so, and nothing past the board
-pub record LabelsSeen (w h : ℕ) (view : Colour → Board) (colour : Colour) (old_chains old_rooms chains rooms : List ℕ) : Type 0 where
-  pub chained : (side : Colour) → ChainLabels (points w h) (near w h) (view side) chains
-  pub roomed : RoomLabels (points w h) (near w h) (view colour) rooms
-  pub chains_past : drop (points w h) chains ≡ drop (points w h) old_chains
-  pub rooms_past : drop (points w h) rooms ≡ drop (points w h) old_rooms
-
-abbrev pub LabelsWritten : Size → List ℕ → Colour → List ℕ → List ℕ → List ℕ → List ℕ → Type 0
-LabelsWritten size cells = LabelsSeen size.width size.height (seen size cells)
+-- the chains of both colours and the rooms of the side of that colour are written, and nothing past the board
+pub record LabelsWritten (size : Size) (cells : List ℕ) (colour : Colour) (old_chains old_rooms chains rooms : List ℕ) : Type 0 where
+  pub chained : (side : Colour) → ChainLabels (count_of size) (near_of size) (seen size cells side) chains
+  pub roomed : RoomLabels (count_of size) (near_of size) (seen size cells colour) rooms
+  pub chains_past : drop (count_of size) chains ≡ drop (count_of size) old_chains
+  pub rooms_past : drop (count_of size) rooms ≡ drop (count_of size) old_rooms
 
 -- no line of the list applies, the stone at the point has that colour, and the first k entries of the moves are a row that takes it
 pub record Shown (size : Size) (cells : List ℕ) (point : ℕ) (old_chains old_rooms old-moves chains rooms moves : List ℕ) (k : ℕ) : Type 0 where

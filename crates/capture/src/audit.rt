@@ -1,8 +1,9 @@
 //! The auditor of marks that come from elsewhere.
 
-ghost use Rattle.std.specs.Prelude.{◌≡◌, ℕ, ◌<◌, ◌≤◌, false, length, Some, None, Ok, Err, slice_index_or};
+ghost use Rattle.std.specs.Prelude.{◌≡◌, ℕ, ◌<◌, ◌≤◌, true, false, length, Some, None, Ok, Err, ◌≢◌, slice_index_or};
 ghost use Rattle.std.specs.List.{prefix_len};
 ghost use Rattle.grid.specs.Refusals.{listed};
+ghost use Rattle.chains.specs.Board.{mine};
 ghost use Rattle.chains.specs.Sized.{count_of, seen};
 ghost use Rattle.chains.specs.Stands.{Stands};
 ghost use Rattle.judge.specs.Promise.{Judges};
@@ -10,7 +11,6 @@ ghost use Rattle.capture.specs.Auditing.{colour_numbered, is_mark, marked_by, au
 ghost use Rattle.capture.specs.Showing.{Fitting, LabelsWritten};
 
 use crate::capturing::write_row;
-use crate::judgement::is_own;
 use crate::showing::fits;
 use chains::colour::Colour;
 use chains::position::Position;
@@ -136,6 +136,14 @@ fn first_wrong(marks: &[u8], judged: &Marks) -> Option<usize>
     None
 }
 
+/// Whether a stone of the colour stands at the point.
+fn is_own(position: Position, colour: Colour, point: usize) -> bool
+    ensures yes { result ≡ true → seen position.size position.cells colour point ≡ mine }
+    ensures no { result ≡ false → seen position.size position.cells colour point ≢ mine }
+{
+    point < position.size().points() && position.cells()[point] == colour.byte()
+}
+
 /// The verdict on the marks, from the judgement.
 fn compare(
     position: Position,
@@ -163,5 +171,135 @@ fn compare(
     Verdict::TooMany {
         point,
         moves: count,
+    }
+}
+
+#[cfg(test)]
+mod tests {
+    use super::*;
+    use chains::labels::MAX_POINTS;
+    use grid::refusal::Lent;
+    use grid::size::{Extent, Size};
+    use std::test::Fail;
+
+    // What stands in lent memory before a call.
+    const LENT: u16 = 7;
+
+    const BLACK: u8 = 0;
+
+    const WHITE: u8 = 1;
+
+    fn board(width: u8, height: u8, bytes: &[u8]) -> Result<Position, Fail> {
+        let Some(columns) = Extent::new(width) else {
+            return Err(Fail::new("no such width"));
+        };
+        let Some(rows) = Extent::new(height) else {
+            return Err(Fail::new("no such height"));
+        };
+        let Ok(position) = Position::new(Size::new(columns, rows), bytes) else {
+            return Err(Fail::new("no such board"));
+        };
+        Ok(position)
+    }
+
+    fn verdict_on(position: Position, colour: u8, marks: &[u8]) -> Result<Verdict, Refusal> {
+        let mut chains = [LENT; MAX_POINTS];
+        let mut rooms = [LENT; MAX_POINTS];
+        let mut moves = [LENT; MAX_POINTS];
+        audit(position, colour, marks, &mut chains, &mut rooms, &mut moves)
+    }
+
+    #[test]
+    fn right_marks_are_right(rt: HostRuntime) -> Result<(), Fail> {
+        assert_eq!(rt;
+            verdict_on(board(5, 1, b".X.X.")?, BLACK, &[0, 1, 0, 1, 0]),
+            Ok(Verdict::Right)
+        );
+        assert_eq!(rt;
+            verdict_on(board(5, 1, b".X.X.")?, WHITE, &[0; 5]),
+            Ok(Verdict::Right)
+        );
+        assert_eq!(rt;
+            verdict_on(board(5, 1, b".O.O.")?, WHITE, &[0, 1, 0, 1, 0]),
+            Ok(Verdict::Right)
+        );
+        assert_eq!(rt;
+            verdict_on(board(6, 1, b".X..X.")?, BLACK, &[0; 6]),
+            Ok(Verdict::Right)
+        );
+        Ok(())
+    }
+
+    #[test]
+    fn the_first_wrong_point_is_named(rt: HostRuntime) -> Result<(), Fail> {
+        let position = board(5, 1, b".X.X.")?;
+        assert_eq!(rt;
+            verdict_on(position, BLACK, &[0; 5]),
+            Ok(Verdict::Missing(1))
+        );
+        assert_eq!(rt;
+            verdict_on(position, BLACK, &[0, 1, 0, 0, 0]),
+            Ok(Verdict::Missing(3))
+        );
+        assert_eq!(rt;
+            verdict_on(position, BLACK, &[0, 1, 1, 0, 1]),
+            Ok(Verdict::NoStone(2))
+        );
+        assert_eq!(rt;
+            verdict_on(position, WHITE, &[0, 1, 0, 0, 0]),
+            Ok(Verdict::NoStone(1))
+        );
+        Ok(())
+    }
+
+    #[test]
+    fn a_mark_too_many_has_its_row(rt: HostRuntime) -> Result<(), Fail> {
+        let mut chains = [LENT; 6];
+        let mut rooms = [LENT; 6];
+        let mut moves = [LENT; 6];
+        let verdict = audit(
+            board(6, 1, b".X..X.")?,
+            BLACK,
+            &[0, 1, 0, 0, 1, 0],
+            &mut chains,
+            &mut rooms,
+            &mut moves,
+        );
+        assert_eq!(rt; verdict, Ok(Verdict::TooMany { point: 1, moves: 2 }));
+        assert_eq!(rt; moves, [2, 0, LENT, LENT, LENT, LENT]);
+        Ok(())
+    }
+
+    #[test]
+    fn refusals_come_in_order_and_change_nothing(rt: HostRuntime) -> Result<(), Fail> {
+        let position = board(2, 1, b"X.")?;
+        assert_eq!(rt;
+            verdict_on(board(2, 1, b"XX")?, 2, &[2]),
+            Err(Refusal::NoLiberty(0))
+        );
+        assert_eq!(rt; verdict_on(position, 2, &[2]), Err(Refusal::BadMarks(0)));
+        assert_eq!(rt;
+            verdict_on(position, BLACK, &[2]),
+            Err(Refusal::BadMarks(1))
+        );
+        assert_eq!(rt;
+            verdict_on(position, BLACK, &[0, 0, 2]),
+            Err(Refusal::BadMarks(3))
+        );
+        assert_eq!(rt;
+            verdict_on(position, BLACK, &[0, 2]),
+            Err(Refusal::BadMarks(1))
+        );
+        let mut chains = [LENT; 2];
+        let mut rooms = [LENT; 2];
+        let mut moves = [LENT; 1];
+        assert_eq!(rt;
+            audit(position, 2, &[2], &mut chains, &mut rooms, &mut moves),
+            Err(Refusal::TooShort(Lent::Moves))
+        );
+        assert_eq!(rt; chains, [LENT; 2]);
+        assert_eq!(rt; rooms, [LENT; 2]);
+        assert_eq!(rt; moves, [LENT; 1]);
+        Ok(())
     }
 }

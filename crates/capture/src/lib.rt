@@ -1,8 +1,9 @@
 //! How a stone is taken, and the auditor of marks.
 
+#![tactic(auto)]
+
 pub mod audit;
 mod capturing;
-pub mod judgement;
 pub mod showing;
 mod target;
 pub mod theorems;

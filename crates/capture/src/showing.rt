@@ -119,3 +119,165 @@ fn copy(from: &[u16], to: &mut [u16], count: usize)
         to[p] = from[p];
     }
 }
+
+#[cfg(test)]
+mod tests {
+    use super::*;
+    use grid::size::{Extent, Size};
+    use play::stone::play;
+    use std::process::Abort;
+    use std::test::Fail;
+
+    // What stands in lent memory before a call.
+    const LENT: u16 = 7;
+
+    fn board(width: u8, height: u8, bytes: &[u8]) -> Result<Position, Fail> {
+        let Some(columns) = Extent::new(width) else {
+            return Err(Fail::new("no such width"));
+        };
+        let Some(rows) = Extent::new(height) else {
+            return Err(Fail::new("no such height"));
+        };
+        let Ok(position) = Position::new(Size::new(columns, rows), bytes) else {
+            return Err(Fail::new("no such board"));
+        };
+        Ok(position)
+    }
+
+    // Plays the moves one after the other: each is allowed.
+    fn replay(rt: &impl Abort, size: Size, cells: &mut [u8], colour: Colour, moves: &[u16]) {
+        for k in 0..moves.len() {
+            assert!(rt; play(size, cells, colour, moves[k] as usize, k).is_ok());
+        }
+    }
+
+    // Shows the row and plays it on the board: the stone is gone after the last move, and nothing is written past the row.
+    fn check_taken(
+        rt: &impl Abort,
+        position: Position,
+        colour: Colour,
+        point: usize,
+    ) -> Result<(), Fail> {
+        let mut chains = [LENT; MAX_POINTS];
+        let mut rooms = [LENT; MAX_POINTS];
+        let mut moves = [LENT; MAX_POINTS];
+        let Ok(count) = show(position, point, &mut chains, &mut rooms, &mut moves) else {
+            return Err(Fail::new("refused"));
+        };
+        let size = position.size();
+        if count > size.points() {
+            return Err(Fail::new("too many moves"));
+        }
+        for k in count..MAX_POINTS {
+            assert_eq!(rt; moves[k], LENT);
+        }
+        let mut cells = position.cells();
+        replay(rt, size, &mut cells, colour.other(), &moves[0..count]);
+        let Ok(after) = Position::new(size, &cells) else {
+            return Err(Fail::new("no board"));
+        };
+        assert_eq!(rt; position.at(point), Some(colour));
+        assert_eq!(rt; after.at(point), None);
+        Ok(())
+    }
+
+    fn refused(rt: &impl Abort, position: Position, point: usize) -> Result<Refusal, Fail> {
+        let mut chains = [LENT; MAX_POINTS];
+        let mut rooms = [LENT; MAX_POINTS];
+        let mut moves = [LENT; MAX_POINTS];
+        match show(position, point, &mut chains, &mut rooms, &mut moves) {
+            Ok(_) => Err(Fail::new("shown")),
+            Err(refusal) => {
+                assert_eq!(rt; chains, [LENT; MAX_POINTS]);
+                assert_eq!(rt; rooms, [LENT; MAX_POINTS]);
+                assert_eq!(rt; moves, [LENT; MAX_POINTS]);
+                Ok(refusal)
+            }
+        }
+    }
+
+    #[test]
+    fn stones_without_a_mark_are_taken(rt: HostRuntime) -> Result<(), Fail> {
+        check_taken(&rt, board(6, 1, b".X..X.")?, Colour::Black, 1)?;
+        check_taken(&rt, board(6, 1, b".X..X.")?, Colour::Black, 4)?;
+        check_taken(&rt, board(6, 1, b".X.X.X")?, Colour::Black, 1)?;
+        check_taken(&rt, board(6, 1, b".X.X.X")?, Colour::Black, 3)?;
+        check_taken(&rt, board(2, 2, b".X.O")?, Colour::Black, 1)?;
+        check_taken(&rt, board(3, 3, b".O.O.O.X.")?, Colour::White, 1)?;
+        check_taken(&rt, board(1, 2, b"X.")?, Colour::Black, 0)
+    }
+
+    #[test]
+    fn labels_are_written(rt: HostRuntime) -> Result<(), Fail> {
+        let mut chains = [LENT; 7];
+        let mut rooms = [LENT; 7];
+        let mut moves = [LENT; 7];
+        assert!(rt;
+            show(
+                board(6, 1, b".X..O.")?,
+                1,
+                &mut chains,
+                &mut rooms,
+                &mut moves,
+            )
+            .is_ok()
+        );
+        assert_eq!(rt;
+            chains,
+            [NO_POINT, 1, NO_POINT, NO_POINT, 4, NO_POINT, LENT]
+        );
+        assert_eq!(rt; rooms, [0, NO_POINT, 2, 2, 2, 2, LENT]);
+        Ok(())
+    }
+
+    #[test]
+    fn marked_stones_and_empty_points_are_refused(rt: HostRuntime) -> Result<(), Fail> {
+        let position = board(5, 1, b".X.X.")?;
+        assert_eq!(rt;
+            refused(&rt, position, 1)?,
+            Refusal::NotShown(Untaken::Marked)
+        );
+        assert_eq!(rt;
+            refused(&rt, position, 3)?,
+            Refusal::NotShown(Untaken::Marked)
+        );
+        assert_eq!(rt;
+            refused(&rt, position, 0)?,
+            Refusal::NotShown(Untaken::NoStone)
+        );
+        assert_eq!(rt;
+            refused(&rt, position, 5)?,
+            Refusal::NotShown(Untaken::NoStone)
+        );
+        assert_eq!(rt;
+            refused(&rt, board(2, 1, b"XX")?, 5)?,
+            Refusal::NoLiberty(0)
+        );
+        Ok(())
+    }
+
+    #[test]
+    fn short_memory_is_refused_first(rt: HostRuntime) -> Result<(), Fail> {
+        let position = board(2, 1, b"XX")?;
+        let mut short = [LENT; 1];
+        let mut chains = [LENT; 2];
+        let mut rooms = [LENT; 2];
+        let mut moves = [LENT; 1];
+        assert_eq!(rt;
+            show(position, 5, &mut short, &mut rooms, &mut moves),
+            Err(Refusal::TooShort(Lent::Chains))
+        );
+        assert_eq!(rt;
+            show(position, 5, &mut chains, &mut short, &mut moves),
+            Err(Refusal::TooShort(Lent::Rooms))
+        );
+        assert_eq!(rt;
+            show(position, 5, &mut chains, &mut rooms, &mut short),
+            Err(Refusal::TooShort(Lent::Moves))
+        );
+        assert_eq!(rt; short, [LENT]);
+        assert_eq!(rt; chains, [LENT; 2]);
+        assert_eq!(rt; rooms, [LENT; 2]);
+        Ok(())
+    }
+}

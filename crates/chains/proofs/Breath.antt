@@ -6,7 +6,7 @@ use Rattle.chains.specs.Board.{pick, State, none, mine, yours, Board, Joined, at
 use Rattle.chains.specs.Breath.{calm, first_failing, first_breathless, stand_refusal, BreathesAt, BreathlessFrom, FirstBreathless}
 use Rattle.chains.specs.Computed.{is_state, breathing}
 use Rattle.chains.specs.Stands.{Stand}
-use Rattle.chains.specs.Views.{stone_byte, other, turned, state_of, view}
+use Rattle.chains.specs.Views.{stone_byte, other, state_of, view}
 use Rattle.chains.specs.declared.colour.Colour.{Colour}
 use Rattle.chains.specs.declared.colour.Colour.TheVariants.{Black, White}
 use Rattle.chains.proofs.States.{is_state_true, state_is, state_is_not, none_mine, none_yours, mine_yours}
@@ -139,6 +139,12 @@ found_first {n} {near} g {b} {from} {r} z w l = record {
 pub none_found : {n : ℕ} {near : Near} → Graph n near → {b : Board} {from r : ℕ} → from ≡ 0 → ((p : ℕ) → b p ≢ none → p < n) → BreathlessFrom n near b from r → n ≤ r → Stand n near b
 none_found {n} {near} g {b} {from} {r} z inside w l =
     calm_stand g b inside (λ p m. breathes_calm g b p (λ h. w.before (b p) p (omega arith) (omega arith) h refl))
+
+-- a state as the other side sees it
+abbrev pub turned : State → State
+turned none = none
+turned mine = yours
+turned yours = mine
 
 turned_none : (s : State) → turned s ≡ none → s ≡ none
 turned_none none e = refl

@@ -17,7 +17,6 @@ use Rattle.chains.proofs.Views.{view_byte, stone_byte_of, stone_view}
 -- every stone from `from` on and before r is marked, and r has one that is not, or is past the last point
 pub record Looked (n : ℕ) (cells : List ℕ) (marks : List Bool) (from r : ℕ) : Type 0 where
   pub bound : r ≤ n
-  pub begun : r < n → from ≤ r
   pub before : (q : ℕ) → from ≤ q → q < r → is_stone (get_or cells q 0) ≡ true → get_or marks q false ≡ true
   pub stone : r < n → is_stone (get_or cells r 0) ≡ true
   pub unmarked : r < n → get_or marks r false ≡ false
@@ -27,7 +26,6 @@ pub looked_from : {n : ℕ} {near : Near} {cells : List ℕ} {marks : List Bool}
     Looked n cells marks from r → (colour : Colour) → BreathlessFrom n near (view n cells colour) from r
 looked_from {n} {near} {cells} {marks} {from} {r} m w colour = record {
   bound = w.bound;
-  begun = w.begun;
   before = λ c q l k h e. (m colour q).sound c h e (w.before q l k (stone_byte_of n cells colour q (λ z. h (sym e ∙ z))));
   stone = λ l. stone_view n cells colour r l (w.stone l);
   breathless = λ c l h e b. both_ways (get_or marks r false) (w.unmarked l) ((m colour r).complete c h e b);

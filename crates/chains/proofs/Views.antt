@@ -8,7 +8,7 @@ use Rattle.chains.specs.Board.{pick, State, none, mine, yours, Board, Joined}
 use Rattle.chains.specs.Computed.{is_state}
 use Rattle.chains.specs.Linked.{Linked}
 use Rattle.chains.specs.Labels.{of_class, First, Labelled, ChainLabels}
-use Rattle.chains.specs.Views.{stone_byte, other, is_point, is_stone, byte_of, state_of, view}
+use Rattle.chains.specs.Views.{stone_byte, other, is_point, is_stone, state_of, view}
 use Rattle.chains.specs.declared.colour.Colour.{Colour}
 use Rattle.chains.specs.declared.colour.Colour.TheVariants.{Black, White}
 use Rattle.chains.proofs.States.{Kind, is_none, is_mine, is_yours, kind, none_mine, none_yours, mine_yours, state_is}
@@ -16,6 +16,12 @@ use Rattle.chains.proofs.Reach.{linked_map, linked_sym, linked_trans}
 use Rattle.chains.proofs.Chain.{joined_linked, linked_joined, joined_first, joined_last, joined_trans, joined_sym}
 use Rattle.chains.proofs.Walk.{own_class}
 use Rattle.chains.proofs.Labelling.{linked_class, linked_inside, first_along, first_unique}
+
+-- the byte by which a state is written, seen from a colour
+abbrev pub byte_of : Colour → State → ℕ
+byte_of colour none = 46
+byte_of colour mine = stone_byte colour
+byte_of colour yours = stone_byte (other colour)
 
 picked_mine : (x y : Bool) → pick x mine (pick y yours none) ≡ mine → x ≡ true
 picked_mine true y e = refl

@@ -31,12 +31,11 @@ pub record BreathesAt (near : Near) (b : Board) (p : ℕ) (answer : Bool) : Type
 -- from the point `from` on, r is the first point whose stone does not breathe, or n where all breathe
 pub record BreathlessFrom (n : ℕ) (near : Near) (b : Board) (from r : ℕ) : Type 0 where
   pub bound : r ≤ n
-  pub begun : r < n → from ≤ r
   pub before : (c : State) (q : ℕ) → from ≤ q → q < r → c ≢ none → b q ≡ c → Breathes near b c q
   pub stone : r < n → b r ≢ none
   pub breathless : (c : State) → r < n → c ≢ none → b r ≡ c → Breathes near b c r → ⊥
 
--- what holds if the points are looked at from the first on
+-- what holds if a search began at the first point
 abbrev pub FromStart : ℕ → Type 0 → Type 0
 FromStart zero T = T
 FromStart (suc from) T = Unit {0}

@@ -42,18 +42,6 @@ points_refusal n bytes =
 abbrev pub chains_refusal : ℕ → List ℕ → Option (ℕ × ℕ)
 chains_refusal n entries = unless (nat_le n (length entries)) (12, 1) None
 
--- what stands on a point, to the other side
-abbrev pub turned : State → State
-turned none = none
-turned mine = yours
-turned yours = mine
-
--- the byte by which a state is written, as the side of that colour sees it
-abbrev pub byte_of : Colour → State → ℕ
-byte_of colour none = 46
-byte_of colour mine = stone_byte colour
-byte_of colour yours = stone_byte (other colour)
-
 -- what a byte says to the side of that colour
 abbrev pub state_of : Colour → ℕ → State
 state_of colour byte = pick (byte == stone_byte colour) mine (pick (byte == stone_byte (other colour)) yours none)

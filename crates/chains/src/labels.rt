@@ -14,6 +14,14 @@ pub const MAX_POINTS: usize = 361;
 /// The label of a point that has none: no board has a point of this number.
 pub const NO_POINT: u16 = 65_535;
 
+/// The neighbour of p with the number k. The same as the size's own answer, with its facts case by case.
+pub(crate) fn beside(size: Size, p: usize, k: usize) -> Option<usize>
+    ensures value { result ≡ hand size.width size.height p k }
+    ensures sound { elim result [ Some q ↦ (near_of size p q ≡ true) × (q < count_of size) | None ↦ Unit {0} ] }
+{
+    size.neighbour(p, k)
+}
+
 /// The neighbour of p with the number k, if it is of the class of p.
 fn link(size: Size, classes: &[u8], p: usize, k: usize) -> Option<usize>
     requires classed { count_of size ≤ length classes.now }
@@ -24,7 +32,7 @@ fn link(size: Size, classes: &[u8], p: usize, k: usize) -> Option<usize>
       | None ↦ Unit {0}
     ] }
 {
-    match size.neighbour(p, k) {
+    match beside(size, p, k) {
         Some(q) if classes[q] == classes[p] => Some(q),
         _ => None,
     }

@@ -1,5 +1,7 @@
 //! Positions, colours, chains and their breath.
 
+#![tactic(auto)]
+
 pub mod colour;
 pub mod labels;
 pub mod liberties;

@@ -8,7 +8,7 @@ ghost use Rattle.chains.specs.Stands.{Stands};
 ghost use Rattle.chains.specs.Views.{is_stone};
 
 use crate::colour::{Colour, EMPTY_BYTE, is_stone};
-use crate::labels::{MAX_POINTS, NO_POINT, label_points};
+use crate::labels::{MAX_POINTS, NO_POINT, beside, label_points};
 use grid::size::Size;
 
 /// Marks the labels of the stones beside p.
@@ -20,7 +20,7 @@ fn mark_beside(size: Size, cells: &[u8], labels: &[u16], p: usize, marks: &mut [
     ensures { MarkedBeside (near_of size) cells.now labels.now p marks.old marks.new }
 {
     for k in 0..size.neighbour_slots(p) {
-        if let Some(q) = size.neighbour(p, k) {
+        if let Some(q) = beside(size, p, k) {
             if is_stone(cells[q]) {
                 marks[labels[q] as usize] = true;
             }

@@ -147,10 +147,9 @@ hands w h = record {
 pub all_handed : (w h p r : ℕ) → r ≡ slots w h p → (q : ℕ) → near w h p q ≡ true → (k : ℕ) × (k < r) × (hand w h p k ≡ Some q)
 all_handed w h p r e q t = let f = (hands w h).complete p q t in (f.0, omega (arith, f.1), f.2)
 
-pub handed_near : (w h p k : ℕ) (r : Option ℕ) → r ≡ hand w h p k → elim r as (λ _. Type 0) [ Some q ↦ (near w h p q ≡ true) × (q < points w h) | None ↦ Unit {0} ]
-handed_near w h p k None e = tt
-handed_near w h p k (Some q) e =
-    let t = (hands w h).sound p k q (sym e) in
+pub handed_near : (w h p k : ℕ) (r : Option ℕ) → r ≡ hand w h p k → (q : ℕ) → r ≡ Some q → (near w h p q ≡ true) × (q < points w h)
+handed_near w h p k r e q f =
+    let t = (hands w h).sound p k q (sym e ∙ f) in
     (t, (graph w h).inside q p ((graph w h).symmetric p q t))
 
 pub handed_after : (w h p k : ℕ) (r : Option ℕ) → r ≡ hand w h p k → (j o q : ℕ) → j < k → hand w h p j ≡ Some o → r ≡ Some q → o < q

@@ -1,5 +1,7 @@
 //! The size of a board, its points, which points are neighbours, and the list of refusals.
 
+#![tactic(auto)]
+
 pub mod refusal;
 pub mod size;
 pub mod theorems;

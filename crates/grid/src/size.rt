@@ -93,13 +93,12 @@ impl Size {
     /// The neighbour of p with the number k: above, left, right and below, which is also the order of the points.
     pub fn neighbour(self, p: usize, k: usize) -> Option<usize>
         ensures value { result ≡ hand self.width self.height p k }
-        ensures sound { elim result [ Some q ↦ (near self.width self.height p q ≡ true) × (q < points self.width self.height) | None ↦ Unit {0} ] }
+        ensures sound { (q : ℕ) → result ≡ Some q → (near self.width self.height p q ≡ true) × (q < points self.width self.height) }
         ensures ordered { (j o q : ℕ) → j < k → hand self.width self.height p j ≡ Some o → result ≡ Some q → o < q }
     {
         self.step(p, k)
     }
 
-    /// Four numbers for a point of the board, none for one that is not there.
     fn slots(self, p: usize) -> usize
         ensures value { result ≡ slots self.width self.height p }
         ensures complete { (q : ℕ) → near self.width self.height p q ≡ true →
@@ -108,10 +107,9 @@ impl Size {
         if p < self.points() { SLOTS } else { 0 }
     }
 
-    /// What `beside` gives, with its facts.
     fn step(self, p: usize, k: usize) -> Option<usize>
         ensures value { result ≡ hand self.width self.height p k }
-        ensures sound { elim result [ Some q ↦ (near self.width self.height p q ≡ true) × (q < points self.width self.height) | None ↦ Unit {0} ] }
+        ensures sound { (q : ℕ) → result ≡ Some q → (near self.width self.height p q ≡ true) × (q < points self.width self.height) }
         ensures ordered { (j o q : ℕ) → j < k → hand self.width self.height p j ≡ Some o → result ≡ Some q → o < q }
     {
         self.beside(p, k)

@@ -72,38 +72,9 @@ pub fn judge(
         return Err(Refusal::TooShort(Lent::Rooms));
     }
     position.stands()?;
-    let marked = judge_standing(&position, colour, chains, rooms);
+    let regions = Regions::new(&position, colour, chains, rooms)?;
+    let marked = settle(size, &position.cells(), colour, &regions, chains, rooms);
     Ok(Marks { marked })
-}
-
-/// The marks on a board that can stand. Writes its chains and rooms.
-fn judge_standing(
-    position: &Position,
-    colour: Colour,
-    chains: &mut [u16],
-    rooms: &mut [u16],
-) -> [bool; MAX_POINTS]
-    requires long { (count_of position.now.size ≤ length chains.old) × (count_of position.now.size ≤ length rooms.old) }
-    requires stands { Stands position.now.size.width position.now.size.height (seen position.now.size position.now.cells colour) }
-    ensures right { Judges position.now.size.width position.now.size.height (seen position.now.size position.now.cells colour) (λ p. get_or result p false) }
-    ensures past { (p : ℕ) → count_of position.now.size ≤ p → slice_index_or result p false ≡ false }
-    ensures chained { (side : Colour) → ChainLabels (count_of position.now.size) (near_of position.now.size) (seen position.now.size position.now.cells side) chains.new }
-    ensures parted { RoomLabels (count_of position.now.size) (near_of position.now.size) (seen position.now.size position.now.cells colour) rooms.new }
-    ensures chains { drop (count_of position.now.size) chains.new ≡ drop (count_of position.now.size) chains.old }
-    ensures rooms { drop (count_of position.now.size) rooms.new ≡ drop (count_of position.now.size) rooms.old }
-{
-    let mut regions = Regions::empty();
-    let Ok(_) = regions.write(position, colour, chains, rooms) else {
-        unreachable()
-    };
-    settle(
-        position.size(),
-        &position.cells(),
-        colour,
-        &regions,
-        chains,
-        rooms,
-    )
 }
 
 /// The marks, from the regions of a board that can stand.
@@ -157,4 +128,104 @@ fn stays(byte: u8, own: u8, chain: u16, left: &RoomSet) -> bool
     ensures { result ≡ (byte == own && member left.now.words chain) }
 {
     byte == own && left.contains(chain as usize)
+}
+
+#[cfg(test)]
+mod tests {
+    use super::*;
+    use chains::colour::BLACK_BYTE;
+    use chains::labels::NO_POINT;
+    use grid::size::Extent;
+    use std::process::Abort;
+    use std::test::Fail;
+
+    fn board(width: u8, height: u8, bytes: &[u8]) -> Result<Position, Fail> {
+        let Some(columns) = Extent::new(width) else {
+            return Err(Fail::new("no such width"));
+        };
+        let Some(rows) = Extent::new(height) else {
+            return Err(Fail::new("no such height"));
+        };
+        let Ok(position) = Position::new(Size::new(columns, rows), bytes) else {
+            return Err(Fail::new("no such board"));
+        };
+        Ok(position)
+    }
+
+    // The marked stones are those that the bytes write.
+    fn check_marks(
+        rt: &impl Abort,
+        position: Position,
+        colour: Colour,
+        marked: &[u8],
+    ) -> Result<(), Fail> {
+        let mut chains = [7; MAX_POINTS];
+        let mut rooms = [7; MAX_POINTS];
+        let Ok(marks) = judge(position, colour, &mut chains, &mut rooms) else {
+            return Err(Fail::new("refused"));
+        };
+        for p in 0..MAX_POINTS {
+            assert_eq!(rt; marks.has(p), p < marked.len() && marked[p] == BLACK_BYTE);
+        }
+        Ok(())
+    }
+
+    fn refused(position: Position, chains: &mut [u16], rooms: &mut [u16]) -> Result<Refusal, Fail> {
+        match judge(position, Colour::Black, chains, rooms) {
+            Ok(_) => Err(Fail::new("a judgement")),
+            Err(refusal) => Ok(refusal),
+        }
+    }
+
+    #[test]
+    fn two_stones_with_two_rooms_each_stay(rt: HostRuntime) -> Result<(), Fail> {
+        let position = board(5, 1, b".X.X.")?;
+        check_marks(&rt, position, Colour::Black, b".X.X.")?;
+        check_marks(&rt, position, Colour::White, b".....")
+    }
+
+    #[test]
+    fn a_room_of_two_points_is_vital_to_neither(rt: HostRuntime) -> Result<(), Fail> {
+        check_marks(&rt, board(6, 1, b".X..X.")?, Colour::Black, b"......")
+    }
+
+    #[test]
+    fn a_third_round_strikes_the_last_chain(rt: HostRuntime) -> Result<(), Fail> {
+        check_marks(&rt, board(6, 1, b".X.X.X")?, Colour::Black, b"......")
+    }
+
+    #[test]
+    fn both_lent_slices_are_written(rt: HostRuntime) -> Result<(), Fail> {
+        let position = board(5, 1, b".X.O.")?;
+        let mut chains = [7; 6];
+        let mut rooms = [7; 6];
+        assert!(rt; judge(position, Colour::Black, &mut chains, &mut rooms).is_ok());
+        assert_eq!(rt; chains, [NO_POINT, 1, NO_POINT, 3, NO_POINT, 7]);
+        assert_eq!(rt; rooms, [0, NO_POINT, 2, 2, 2, 7]);
+        Ok(())
+    }
+
+    #[test]
+    fn refusals_come_in_order_and_change_nothing(rt: HostRuntime) -> Result<(), Fail> {
+        let position = board(4, 1, b".XOX")?;
+        let mut short = [7; 3];
+        let mut chains = [7; 4];
+        let mut rooms = [7; 4];
+        assert_eq!(rt;
+            refused(position, &mut short, &mut [])?,
+            Refusal::TooShort(Lent::Chains)
+        );
+        assert_eq!(rt;
+            refused(position, &mut chains, &mut short)?,
+            Refusal::TooShort(Lent::Rooms)
+        );
+        assert_eq!(rt;
+            refused(position, &mut chains, &mut rooms)?,
+            Refusal::NoLiberty(2)
+        );
+        assert_eq!(rt; short, [7; 3]);
+        assert_eq!(rt; chains, [7; 4]);
+        assert_eq!(rt; rooms, [7; 4]);
+        Ok(())
+    }
 }

@@ -1,6 +1,8 @@
 //! Judges boards from standard input, one after another: prints a line a board, how many stones of each colour are marked.
 //! The first board that is refused is the last line.
 
+#![tactic(auto)]
+
 use anyhow::anyhow;
 use chains::colour::Colour;
 use chains::labels::MAX_POINTS;
@@ -54,5 +56,5 @@ fn counts(board: &[u8]) -> Result<(usize, usize), Refusal> {
     let mut rooms = [0; MAX_POINTS];
     let black = judge_board(board, Colour::Black, &mut cells, &mut chains, &mut rooms)?;
     let white = judge_board(board, Colour::White, &mut cells, &mut chains, &mut rooms)?;
-    Ok((marked_stones(black.marks()), marked_stones(white.marks())))
+    Ok((marked_stones(black.marks), marked_stones(white.marks)))
 }

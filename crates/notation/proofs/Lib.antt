@@ -1,4 +1,3 @@
-mod Calls
 mod Calm
 mod Carried
 mod Points

@@ -2,28 +2,35 @@
 
 ghost use Rattle.std.specs.Prelude.{◌≡◌, ◌≤◌, Bool, ◌++◌, length, Some, None, Ok, Err, count_by};
 ghost use Rattle.grid.specs.Refusals.{listed};
-ghost use Rattle.chains.specs.Sized.{count_of};
-ghost use Rattle.notation.specs.Judging.{judge_bytes_refusal, JudgedOn, BoardJudged};
+ghost use Rattle.chains.specs.Sized.{count_of, seen};
+ghost use Rattle.notation.specs.Judging.{judge_bytes_refusal, JudgedSo, BoardJudged};
 ghost use Rattle.notation.specs.Layout.{cells_refusal};
 
-use crate::board::{SIZE_BYTES, enough, exactly, place, position_of, read_size};
-use capture::judgement::Judgement;
+use crate::board::{SIZE_BYTES, enough, exactly, place, read_size, sound};
 use chains::colour::Colour;
+use chains::position::Position;
 use grid::refusal::{Lent, Refusal};
 use grid::size::Size;
-use judge::judgement::Marks;
+use judge::judgement::{Marks, judge};
+
+/// The size of a judged board, and the marks.
+#[derive(Clone, Copy)]
+pub struct Judged {
+    pub size: Size,
+    pub marks: Marks,
+}
 
 /// Judges the stones of one colour on lent memory, which then holds the board, its chains and that colour's rooms;
-/// or says why not, and leaves that memory as it was. The judgement then shows rows of moves without judging again.
+/// or says why not, and leaves that memory as it was.
 pub fn judge_board(
     bytes: &[u8],
     colour: Colour,
     lent: &mut [u8],
     chains: &mut [u16],
     rooms: &mut [u16],
-) -> Result<Judgement, Refusal>
+) -> Result<Judged, Refusal>
     ensures { elim result [
-      | Ok judgement ↦ BoardJudged bytes.now colour lent.old chains.old rooms.old judgement lent.new chains.new rooms.new
+      | Ok judged ↦ BoardJudged bytes.now colour lent.old chains.old rooms.old judged lent.new chains.new rooms.new
       | Err e ↦ (judge_bytes_refusal bytes.now (length lent.old) (length chains.old) (length rooms.old) ≡ Some (listed e))
           × (lent.new ≡ lent.old) × (chains.new ≡ chains.old) × (rooms.new ≡ rooms.old)
     ] }
@@ -41,31 +48,33 @@ pub fn judge_board(
     let Some(cells) = exactly(bytes, points) else {
         return Err(Refusal::Count(bytes.len().saturating_sub(SIZE_BYTES)));
     };
-    let judgement = judge_cells(size, cells, colour, chains, rooms)?;
+    let cells = sound(size, cells)?;
+    let marks = judge_cells(size, cells, colour, chains, rooms);
     place(cells, lent);
-    Ok(judgement)
+    Ok(Judged { size, marks })
 }
 
-/// The judgement on as many points as the size asks for, or the first of the last lines that applies.
+/// The judgement on points that can stand.
 fn judge_cells(
     size: Size,
     cells: &[u8],
     colour: Colour,
     chains: &mut [u16],
     rooms: &mut [u16],
-) -> Result<Judgement, Refusal>
+) -> Marks
     requires all { length cells.now ≡ count_of size }
+    requires good { cells_refusal size.width size.height cells.now ≡ None }
     requires chains { count_of size ≤ length chains.old }
     requires rooms { count_of size ≤ length rooms.old }
-    ensures { elim result [
-      | Ok judgement ↦ (cells_refusal size.width size.height cells.now ≡ None)
-          × JudgedOn size.width size.height cells.now colour chains.old rooms.old judgement chains.new rooms.new
-      | Err e ↦ (cells_refusal size.width size.height cells.now ≡ Some (listed e))
-          × (chains.new ≡ chains.old) × (rooms.new ≡ rooms.old)
-    ] }
+    ensures { JudgedSo size (seen size cells.now) colour result.marked chains.old rooms.old chains.new rooms.new }
 {
-    let position = position_of(size, cells)?;
-    Judgement::new(position, colour, chains, rooms)
+    match Position::new(size, cells) {
+        Ok(position) => match judge(position, colour, chains, rooms) {
+            Ok(marks) => marks,
+            Err(_) => unreachable(),
+        },
+        Err(_) => unreachable(),
+    }
 }
 
 /// How many stones are marked.

@@ -7,17 +7,17 @@ use Rattle.grid.proofs.Square.{graph}
 use Rattle.chains.specs.Board.{State, none, mine, yours, Board}
 use Rattle.chains.specs.Computed.{count, breathing}
 use Rattle.chains.specs.Stands.{Stands}
-use Rattle.chains.specs.Views.{other, is_point, byte_of, turned, state_of, view}
+use Rattle.chains.specs.Views.{other, is_point, state_of, view}
 use Rattle.chains.specs.declared.colour.Colour.{Colour}
 use Rattle.chains.specs.declared.colour.Colour.TheVariants.{Black, White}
-use Rattle.chains.proofs.Breath.{breathes_turned, view_turned}
+use Rattle.chains.proofs.Breath.{turned, breathes_turned, view_turned}
 use Rattle.chains.proofs.Chain.{breathing_breathes}
 use Rattle.chains.proofs.Square.{stands_stand, stand_stands}
 use Rattle.chains.proofs.States.{Kind, is_none, is_mine, is_yours, kind, none_mine, none_yours}
 use Rattle.chains.proofs.Views.{state_byte, none_byte, empty_byte}
 use Rattle.play.specs.Played.{Played}
-use Rattle.play.specs.Steps.{PointsRead, Free, Settled, Decided, settled_board}
-use Rattle.play.specs.Stone.{faced, made, is_taken, StoneRefused, StonePlayed}
+use Rattle.play.specs.Steps.{PointsRead, Free, Settled, settled_board}
+use Rattle.play.specs.Stone.{byte_of, faced, made, is_taken, StoneRefused, StonePlayed}
 use Rattle.play.proofs.Moves.{after_played, goes_on}
 use Rattle.play.proofs.Refusing.{free_none, suicide, not_refused_stone}
 use Rattle.play.proofs.Settling.{view_same, view_on_board, settled_made}
@@ -72,40 +72,33 @@ point_byte c byte g = join (kind (state_of c byte))
     join (is_mine z) = state_byte c mine byte (λ e. none_mine e refl) z ∙ sym (ap (byte_of c) z)
     join (is_yours z) = state_byte c yours byte (λ e. none_yours e refl) z ∙ sym (ap (byte_of c) z)
 
--- the new stone breathes on the board of the move
-made_breathes : {w h : ℕ} {bytes before cells : List ℕ} {colour : Colour} {point taken : ℕ} → PointsRead w h bytes before → Settled w h before colour point cells taken →
-    breathing (points w h) (near w h) (made w h bytes colour point) yours point ≡ true
-made_breathes {w} {h} {colour = colour} {point} r s = subst (λ (d : Board). breathing (points w h) (near w h) d yours point ≡ true) (settled_made colour point r) s.breath
-
--- the stone is allowed
-pub stone_decided : {w h : ℕ} {bytes before cells : List ℕ} {colour : Colour} {point turn taken : ℕ} → PointsRead w h bytes before → Free w h before point →
-    Settled w h before colour point cells taken → Decided w h bytes colour point turn cells taken
-stone_decided {before = before} {colour = colour} {turn = turn} r f s = record { allowed = not_refused_stone colour turn r f (made_breathes r s); before = before; read = r; free = f; settled = s }
-
 -- the stone is played
-pub stone_played : {w h : ℕ} {bytes cells left : List ℕ} {colour : Colour} {point turn taken : ℕ} → Decided w h bytes colour point turn cells taken →
-    points w h ≤ length cells → left ≡ take (points w h) cells ++ drop (points w h) bytes → StonePlayed w h bytes colour point turn left taken
-stone_played {w} {h} {bytes} {cells} {left} {colour} {point} {turn} {taken} d few t = record {
-  allowed = d.allowed;
+pub stone_played : {w h : ℕ} {bytes before cells left : List ℕ} {colour : Colour} {point turn taken : ℕ} → PointsRead w h bytes before → Free w h before point →
+    Settled w h before colour point cells taken → points w h ≤ length cells → left ≡ take (points w h) cells ++ drop (points w h) bytes → StonePlayed w h bytes colour point turn left taken
+stone_played {w} {h} {bytes} {before} {cells} {left} {colour} {point} {turn} {taken} r f s few t = record {
+  allowed = not_refused_stone colour turn r f breath;
   played = played;
-  bytes = λ p l. same p l ∙ (point_byte (other colour) (get_or cells p 0) (d.settled.good p l) ∙ ap (byte_of (other colour)) (sym (view_on_board (points w h) cells (other colour) p l)
-      ∙ ap (λ (e : Board). e p) (d.settled.board ∙ settled_made colour point d.read)));
-  written = λ p l. rw (same p l) (d.settled.good p l);
+  bytes = λ p l. same p l ∙ (point_byte (other colour) (get_or cells p 0) (s.good p l) ∙ ap (byte_of (other colour)) (sym (view_on_board (points w h) cells (other colour) p l)
+      ∙ ap (λ (d : Board). d p) (s.board ∙ settled_made colour point r)));
+  written = λ p l. rw (same p l) (s.good p l);
   past = rw t (drop_at (take (points w h) cells) (drop (points w h) bytes) (points w h) (length-take-le (points w h) cells few));
-  captures = d.settled.number ∙ ap₂ (λ (b e : Board). count (λ p. is_taken (b p) (e p)) (points w h))
-      (view_same (points w h) d.before bytes (other colour) d.read.same) (sym (view_same (points w h) left cells (other colour) same));
+  captures = s.number ∙ ap₂ (λ (b d : Board). count (λ p. is_taken (b p) (d p)) (points w h))
+      (view_same (points w h) before bytes (other colour) r.same) (sym (view_same (points w h) left cells (other colour) same));
   stands = stands_after w h bytes left colour played;
 }
   where
     same : (p : ℕ) → p < points w h → get_or left p 0 ≡ get_or cells p 0
     same p l = rw t (get_or_append_left (take (points w h) cells) (drop (points w h) bytes) 0 p (rw (length-take-le (points w h) cells few) l) ∙ get_or-take (points w h) cells p 0 l)
 
+    breath : breathing (points w h) (near w h) (made w h bytes colour point) yours point ≡ true
+    breath = subst (λ (d : Board). breathing (points w h) (near w h) d yours point ≡ true) (settled_made colour point r) s.breath
+
     board : faced w h left colour ≡ made w h bytes colour point
-    board = view_same (points w h) left cells (other colour) same ∙ (d.settled.board ∙ settled_made colour point d.read)
+    board = view_same (points w h) left cells (other colour) same ∙ (s.board ∙ settled_made colour point r)
 
     played : Played (near w h) (faced w h bytes colour) point (faced w h left colour)
-    played = subst (λ (e : Board). Played (near w h) (faced w h bytes colour) point e) (sym board)
-        (after_played (graph w h) (faced w h bytes colour) point (free_none d.read d.free (other colour)) (breathing_breathes (graph w h) (made w h bytes colour point) yours point (made_breathes d.read d.settled)))
+    played = subst (λ (d : Board). Played (near w h) (faced w h bytes colour) point d) (sym board)
+        (after_played (graph w h) (faced w h bytes colour) point (free_none r f (other colour)) (breathing_breathes (graph w h) (made w h bytes colour point) yours point breath))
 
 -- the stone is refused, since it would not breathe
 pub stone_not_breathing : {w h : ℕ} {bytes before : List ℕ} {colour : Colour} {point turn : ℕ} → PointsRead w h bytes before → Free w h before point →

@@ -1,6 +1,6 @@
 -- The steps in which a stone is played: the points are read, the stone is put, the breath of each stone is looked at,
 -- and stones without breath are taken off. Assumes nothing: these are definitions.
-use Rattle.std.specs.Prelude.{◌≡◌, ℕ, ◌<◌, ◌≤◌, Bool, true, false, cond, not, ◌&&◌, List, length, take, None, ◌==◌, slice_index}
+use Rattle.std.specs.Prelude.{◌≡◌, ℕ, ◌<◌, ◌≤◌, Bool, true, false, cond, not, ◌&&◌, List, length, take, ◌==◌, slice_index}
 use Rattle.std.specs.List.{prefix_len}
 use Rattle.grid.specs.Graph.{Near}
 use Rattle.grid.specs.Grid.{points, near}
@@ -11,7 +11,7 @@ use Rattle.chains.specs.Views.{is_point, is_stone, view}
 use Rattle.chains.specs.declared.colour.Colour.{Colour}
 use Rattle.play.specs.After.{left_on}
 use Rattle.play.specs.Played.{with_stone}
-use Rattle.play.specs.Stone.{faced, is_taken, stone_refusal}
+use Rattle.play.specs.Stone.{faced, is_taken}
 
 -- every cell of the board writes a point
 abbrev pub WritesPoints : ℕ → ℕ → List ℕ → Type 0
@@ -69,11 +69,3 @@ pub record Settled (w h : ℕ) (before : List ℕ) (colour : Colour) (point : �
   pub good : WritesPoints w h cells
   pub breath : breathing (points w h) (near w h) (settled_board w h before colour point) yours point ≡ true
   pub number : taken ≡ captures w h before cells colour
-
--- the stone is allowed as the move of that number, and the cells hold what it makes of the board that the bytes write
-pub record Decided (w h : ℕ) (bytes : List ℕ) (colour : Colour) (point turn : ℕ) (cells : List ℕ) (taken : ℕ) : Type 0 where
-  pub allowed : stone_refusal w h bytes colour point turn ≡ None
-  pub before : List ℕ
-  pub read : PointsRead w h bytes before
-  pub free : Free w h before point
-  pub settled : Settled w h before colour point cells taken

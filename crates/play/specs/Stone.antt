@@ -6,10 +6,16 @@ use Rattle.grid.specs.declared.refusal.Refusal.{Refusal}
 use Rattle.chains.specs.Board.{State, none, mine, yours, Board}
 use Rattle.chains.specs.Computed.{is_state, count, breathing}
 use Rattle.chains.specs.Stands.{Stands}
-use Rattle.chains.specs.Views.{other, is_point, byte_of, points_refusal, view}
+use Rattle.chains.specs.Views.{stone_byte, other, is_point, points_refusal, view}
 use Rattle.chains.specs.declared.colour.Colour.{Colour}
 use Rattle.play.specs.After.{after}
 use Rattle.play.specs.Played.{Played}
+
+-- the byte by which a state is written, as the side of that colour sees it
+abbrev pub byte_of : Colour → State → ℕ
+byte_of colour none = 46
+byte_of colour mine = stone_byte colour
+byte_of colour yours = stone_byte (other colour)
 
 -- the board that the bytes write, as the side sees it that does not move
 abbrev pub faced : ℕ → ℕ → List ℕ → Colour → Board

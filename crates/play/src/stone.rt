@@ -4,7 +4,7 @@ ghost use Rattle.std.specs.Prelude.{◌≡◌, ℕ, ◌<◌, ◌≤◌, false, L
 ghost use Rattle.chains.specs.Board.{yours};
 ghost use Rattle.chains.specs.Computed.{breathing};
 ghost use Rattle.chains.specs.Sized.{count_of, near_of};
-ghost use Rattle.play.specs.Steps.{WritesPoints, PointsRead, Free, Placed, LookedAt, TakenOff, Settled, Decided, settled_board, captures, kept_byte, byte_taken};
+ghost use Rattle.play.specs.Steps.{WritesPoints, PointsRead, Free, Placed, LookedAt, TakenOff, Settled, settled_board, captures, kept_byte, byte_taken};
 ghost use Rattle.play.specs.Stone.{faced, StoneRefused, StonePlayed};
 
 use chains::colour::{Colour, EMPTY_BYTE, is_stone};
@@ -34,39 +34,11 @@ pub fn play(
       | Err e ↦ StoneRefused size.width size.height board.old colour point turn e × (board.new ≡ board.old)
     ] }
 {
-    let made = decided(size, board, colour, point, turn)?;
-    Ok(made.hand_back(size, board))
-}
-
-impl Made {
-    /// Writes the points of the board that the stone makes, and nothing past them, and says how many stones it takes.
-    fn hand_back(&self, size: Size, board: &mut [u8]) -> usize
-        requires { count_of size ≤ length board.old }
-        ensures { (colour : Colour) (point turn : ℕ) → Decided size.width size.height board.old colour point turn self.now.cells self.now.taken →
-            StonePlayed size.width size.height board.old colour point turn board.new result }
-    {
-        write_points(size, &self.cells, board);
-        self.taken
-    }
-}
-
-/// What the stone makes of the board, or why it is refused.
-fn decided(
-    size: Size,
-    board: &[u8],
-    colour: Colour,
-    point: usize,
-    turn: usize,
-) -> Result<Made, Refusal>
-    ensures { elim result [
-      | Ok made ↦ Decided size.width size.height board.now colour point turn made.cells made.taken × (count_of size ≤ length board.now)
-      | Err e ↦ StoneRefused size.width size.height board.now colour point turn e
-    ] }
-{
     let before = read_points(size, board)?;
     free_point(size, &before, point, turn)?;
     let made = allowed(size, before, colour, point, turn)?;
-    Ok(made)
+    write_points(size, &made.cells, board);
+    Ok(made.taken)
 }
 
 /// The points that the bytes write.
@@ -141,7 +113,6 @@ fn settled(size: Size, before: [u8; MAX_POINTS], colour: Colour, point: usize) -
     Some(Made { cells, taken })
 }
 
-/// The cells with the new stone.
 fn put_stone(size: Size, cells: [u8; MAX_POINTS], colour: Colour, point: usize) -> [u8; MAX_POINTS]
     requires good { WritesPoints size.width size.height cells }
     requires inside { point < count_of size }
@@ -181,7 +152,6 @@ fn take_off(
     left
 }
 
-/// What becomes of a byte: a stone of the side that does not move goes, unless it breathes.
 fn kept(byte: u8, gone: u8, breathes: bool) -> u8
     ensures { result ≡ kept_byte gone byte breathes }
 {
@@ -221,7 +191,6 @@ fn count_taken(
     taken
 }
 
-/// Whether the byte of a stone of that kind became that of an empty point.
 fn was_taken(gone: u8, before: u8, after: u8) -> bool
     ensures { result ≡ byte_taken gone before after }
 {
@@ -235,4 +204,107 @@ fn write_points(size: Size, cells: &[u8; MAX_POINTS], board: &mut [u8])
 {
     let count = size.points();
     board[0..count].copy_from_slice(&cells[0..count]);
+}
+
+#[cfg(test)]
+mod tests {
+    use super::*;
+    use grid::refusal::Lent;
+    use grid::size::Extent;
+    use std::test::Fail;
+
+    fn sized(width: u8, height: u8) -> Result<Size, Fail> {
+        let Some(columns) = Extent::new(width) else {
+            return Err(Fail::new("no such width"));
+        };
+        let Some(rows) = Extent::new(height) else {
+            return Err(Fail::new("no such height"));
+        };
+        Ok(Size::new(columns, rows))
+    }
+
+    #[test]
+    fn a_stone_takes_one_chain(rt: HostRuntime) -> Result<(), Fail> {
+        let mut board = *b".XOO.?";
+        assert_eq!(rt; play(sized(5, 1)?, &mut board, Colour::Black, 4, 0), Ok(2));
+        assert_eq!(rt; board, *b".X..X?");
+        Ok(())
+    }
+
+    #[test]
+    fn a_stone_takes_several_chains(rt: HostRuntime) -> Result<(), Fail> {
+        let mut board = *b".XO.OOX.";
+        assert_eq!(rt; play(sized(8, 1)?, &mut board, Colour::Black, 3, 0), Ok(3));
+        assert_eq!(rt; board, *b".X.X..X.");
+        Ok(())
+    }
+
+    #[test]
+    fn a_stone_may_breathe_by_what_it_takes(rt: HostRuntime) -> Result<(), Fail> {
+        let mut board = *b".XO.XXO.OOO.....";
+        assert_eq!(rt; play(sized(4, 4)?, &mut board, Colour::White, 0, 3), Ok(3));
+        assert_eq!(rt; board, *b"O.O...O.OOO.....");
+        Ok(())
+    }
+
+    #[test]
+    fn a_stone_without_breath_is_refused(rt: HostRuntime) -> Result<(), Fail> {
+        let mut board = *b".X.X..?";
+        assert_eq!(rt;
+            play(sized(3, 2)?, &mut board, Colour::White, 0, 7),
+            Err(Refusal::Suicide(7))
+        );
+        assert_eq!(rt; board, *b".X.X..?");
+        Ok(())
+    }
+
+    #[test]
+    fn the_smallest_board_takes_no_stone(rt: HostRuntime) -> Result<(), Fail> {
+        let mut board = *b".X";
+        assert_eq!(rt;
+            play(sized(1, 1)?, &mut board, Colour::Black, 0, 0),
+            Err(Refusal::Suicide(0))
+        );
+        assert_eq!(rt; board, *b".X");
+        Ok(())
+    }
+
+    #[test]
+    fn a_stone_takes_along_a_column(rt: HostRuntime) -> Result<(), Fail> {
+        let mut board = *b"XXXXXXXXXXXXXXXXXX.";
+        assert_eq!(rt;
+            play(sized(1, 19)?, &mut board, Colour::White, 18, 2),
+            Ok(18)
+        );
+        assert_eq!(rt; board, *b"..................O");
+        Ok(())
+    }
+
+    #[test]
+    fn refusals_come_in_order_and_change_nothing(rt: HostRuntime) -> Result<(), Fail> {
+        let size = sized(2, 2)?;
+        let mut short = *b"X?.";
+        assert_eq!(rt;
+            play(size, &mut short, Colour::Black, 4, 9),
+            Err(Refusal::TooShort(Lent::Points))
+        );
+        assert_eq!(rt; short, *b"X?.");
+        let mut bad = *b"X.?x";
+        assert_eq!(rt;
+            play(size, &mut bad, Colour::Black, 4, 9),
+            Err(Refusal::BadByte(4))
+        );
+        assert_eq!(rt; bad, *b"X.?x");
+        let mut board = *b"X.O.";
+        assert_eq!(rt;
+            play(size, &mut board, Colour::Black, 4, 9),
+            Err(Refusal::OffBoard(9))
+        );
+        assert_eq!(rt;
+            play(size, &mut board, Colour::White, 0, 8),
+            Err(Refusal::Occupied(8))
+        );
+        assert_eq!(rt; board, *b"X.O.");
+        Ok(())
+    }
 }

@@ -6,7 +6,7 @@ use Rattle.grid.specs.Graph.{Near, Graph}
 use Rattle.chains.specs.Board.{State, none, mine, yours, Board, Joined, at, on, Breathes}
 use Rattle.chains.specs.Stands.{Stand}
 use Rattle.chains.specs.Computed.{is_state}
-use Rattle.chains.specs.Views.{other, turned}
+use Rattle.chains.specs.Views.{other}
 use Rattle.chains.specs.declared.colour.Colour.{Colour}
 use Rattle.chains.specs.declared.colour.Colour.TheVariants.{Black, White}
 use Rattle.chains.proofs.States.{is_none, is_mine, is_yours, kind, none_mine, none_yours, is_state_true, state_is}
@@ -14,7 +14,7 @@ use Rattle.chains.proofs.Below.{find}
 use Rattle.play.proofs.Moves.{played_unique, goes_on}
 use Rattle.referee.specs.declared.moves.Move.{Move}
 use Rattle.referee.specs.declared.moves.Move.TheVariants.{Pass, At}
-use Rattle.referee.specs.Rules.{as_seen, seen, Same, Makes}
+use Rattle.referee.specs.Rules.{turned, as_seen, seen, Same, Makes}
 
 -- seen from the one side and then from the other, a point is as it was
 pub seen_back : (c : Colour) (s : State) → as_seen c (as_seen c s) ≡ s

@@ -7,7 +7,7 @@ use Rattle.grid.specs.declared.refusal.Refusal.{Refusal}
 use Rattle.grid.specs.declared.refusal.Refusal.TheVariants.{OffBoard, Occupied, Suicide, Ko, AfterEnd}
 use Rattle.chains.specs.Board.{State, none, mine, yours, Board}
 use Rattle.chains.specs.Computed.{is_state, count}
-use Rattle.chains.specs.Views.{other, turned}
+use Rattle.chains.specs.Views.{other}
 use Rattle.chains.specs.declared.colour.Colour.{Colour}
 use Rattle.chains.specs.declared.colour.Colour.TheVariants.{Black, White}
 use Rattle.play.specs.Played.{Played}
@@ -16,6 +16,12 @@ use Rattle.referee.specs.declared.moves.Move.TheVariants.{Pass, At}
 use Rattle.referee.specs.declared.outcome.Outcome.{Outcome}
 use Rattle.referee.specs.declared.outcome.Outcome.TheVariants.{ToMove, Over, Refused}
 use Rattle.referee.specs.declared.outcome.Answer.{Answer}
+
+-- what stands on a point, to the other side
+abbrev pub turned : State → State
+turned none = none
+turned mine = yours
+turned yours = mine
 
 -- what stands on a point as the side of that colour sees it, where it is written as Black sees it
 abbrev pub as_seen : Colour → State → State

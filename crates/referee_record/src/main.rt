@@ -1,5 +1,7 @@
 //! Referees a record from standard input: prints the last board, a line a row, and how the record ends.
 
+#![tactic(auto)]
+
 use anyhow::anyhow;
 use grid::size::Size;
 use notation::lines::{outcome_line, refusal_line, row_line};

@@ -3,7 +3,7 @@
 ghost use Rattle.std.specs.Prelude.{◌≡◌, ℕ, ◌<◌, ◌≤◌, true, not, ◌&&◌, ◌||◌, length, Some, None, ◌==◌, slice_index};
 ghost use Rattle.grid.specs.Neighbours.{hand};
 ghost use Rattle.chains.specs.Sized.{count_of, near_of};
-ghost use Rattle.rooms.specs.Tables.{holds, Paired, chain_at, touches, put_bit, keep_bit, empty_bit, empty_firsts, vital_next, firsts_next, wall_next, vital_bit, wall_bit, own_first, clear_bit, NoRoom, RestKept};
+ghost use Rattle.rooms.specs.Tables.{holds, Paired, chain_at, touches, put_bit, keep_bit, empty_bit, empty_firsts, vital_next, firsts_next, wall_next, vital_bit, wall_bit};
 
 use crate::room_set::RoomSet;
 use chains::labels::{MAX_POINTS, NO_POINT};
@@ -28,13 +28,21 @@ fn keep(sets: &mut [RoomSet], chain: usize, room: usize, stays: bool)
     }
 }
 
+/// The neighbour of p with the number k. The same as the size's own answer, with its facts case by case.
+fn beside(size: Size, p: usize, k: usize) -> Option<usize>
+    ensures value { result ≡ hand size.width size.height p k }
+    ensures sound { elim result [ Some q ↦ (near_of size p q ≡ true) × (q < count_of size) | None ↦ Unit {0} ] }
+{
+    size.neighbour(p, k)
+}
+
 /// The chain of the neighbour of p with the number k, if an own stone stands there.
 fn chain_beside(size: Size, chains: &[u16], rooms: &[u16], p: usize, k: usize) -> Option<usize>
     requires { Paired (count_of size) chains.now rooms.now }
     ensures value { result ≡ chain_at chains.now rooms.now (hand size.width size.height p k) }
     ensures inside { elim result [ Some c ↦ c < count_of size | None ↦ Unit {0} ] }
 {
-    match size.neighbour(p, k) {
+    match beside(size, p, k) {
         Some(q) if rooms[q] == NO_POINT => Some(chains[q] as usize),
         _ => None,
     }
@@ -159,67 +167,28 @@ fn wall_point(size: Size, chains: &[u16], rooms: &[u16], p: usize, sets: &mut [R
     }
 }
 
-/// Whether p is the first point of an own chain.
-fn is_first(chains: &[u16], rooms: &[u16], p: usize) -> bool
-    requires chained { p < length chains.now }
-    requires roomed { p < length rooms.now }
-    ensures { result ≡ own_first chains.now rooms.now p }
-{
-    rooms[p] == NO_POINT && chains[p] as usize == p
-}
-
-/// Takes all rooms out of the set of the chain.
-fn clear(sets: &mut [RoomSet], chain: usize)
-    requires { chain < length sets.old }
-    ensures { (c i : ℕ) → holds sets.new c i ≡ (holds sets.old c i && not (c == chain)) }
-{
-    sets[chain] = RoomSet::empty();
-}
-
-/// Takes all rooms out of both sets of each own chain.
-pub(crate) fn clear_chains(
-    size: Size,
-    chains: &[u16],
-    rooms: &[u16],
-    vital: &mut [RoomSet],
-    walls: &mut [RoomSet],
-)
-    requires paired { Paired (count_of size) chains.now rooms.now }
-    requires long { (count_of size ≤ length vital.old) × (count_of size ≤ length walls.old) }
-    ensures vital { (c i : ℕ) → holds vital.new c i ≡ clear_bit chains.now rooms.now (count_of size) c (holds vital.old c i) }
-    ensures walls { (c i : ℕ) → holds walls.new c i ≡ clear_bit chains.now rooms.now (count_of size) c (holds walls.old c i) }
-{
-    for p in 0..size.points() {
-        if is_first(chains, rooms, p) {
-            clear(vital, p);
-            clear(walls, p);
-        }
-    }
-}
-
-/// Puts the rooms that are vital to each chain into its set, if the set has no room yet.
-pub(crate) fn write_vital(size: Size, chains: &[u16], rooms: &[u16], sets: &mut [RoomSet])
-    requires paired { Paired (count_of size) chains.now rooms.now }
-    requires long { count_of size ≤ length sets.old }
-    ensures bits { (c i : ℕ) → NoRoom sets.old c → holds sets.new c i
+/// For each chain the rooms that are vital to it.
+pub(crate) fn vital_sets(size: Size, chains: &[u16], rooms: &[u16]) -> [RoomSet; MAX_POINTS]
+    requires { Paired (count_of size) chains.now rooms.now }
+    ensures { (c i : ℕ) → holds result c i
         ≡ vital_bit (touches size chains.now rooms.now) chains.now rooms.now (count_of size) c i }
-    ensures rest { RestKept (touches size chains.now rooms.now) sets.old sets.new }
 {
     let mut firsts = [NO_POINT; MAX_POINTS];
+    let mut sets = [RoomSet::empty(); MAX_POINTS];
     for p in 0..size.points() {
-        vital_point(size, chains, rooms, p, &mut firsts, sets);
+        vital_point(size, chains, rooms, p, &mut firsts, &mut sets);
     }
+    sets
 }
 
-/// Puts the rooms that have each chain for a wall into its set, if the set has no room yet.
-pub(crate) fn write_walls(size: Size, chains: &[u16], rooms: &[u16], sets: &mut [RoomSet])
-    requires paired { Paired (count_of size) chains.now rooms.now }
-    requires long { count_of size ≤ length sets.old }
-    ensures bits { (c i : ℕ) → NoRoom sets.old c → holds sets.new c i
-        ≡ wall_bit (touches size chains.now rooms.now) rooms.now (count_of size) c i }
-    ensures rest { RestKept (touches size chains.now rooms.now) sets.old sets.new }
+/// For each chain the rooms that have it for a wall.
+pub(crate) fn wall_sets(size: Size, chains: &[u16], rooms: &[u16]) -> [RoomSet; MAX_POINTS]
+    requires { Paired (count_of size) chains.now rooms.now }
+    ensures { (c i : ℕ) → holds result c i ≡ wall_bit (touches size chains.now rooms.now) rooms.now (count_of size) c i }
 {
+    let mut sets = [RoomSet::empty(); MAX_POINTS];
     for p in 0..size.points() {
-        wall_point(size, chains, rooms, p, sets);
+        wall_point(size, chains, rooms, p, &mut sets);
     }
+    sets
 }

@@ -16,9 +16,9 @@ pub unreachable-requires : goal.unreachable-requires
 unreachable-requires c = not_unwritten (count_of c.args.size) c.args.board.now (listed c.in-default.field-0) c.requires.long c.requires.good c.in-default.ensures
 
 -- what the regions say of the board
-survey : (size : Size) (board : List ℕ) (position : Position) (colour : Colour) {chains rooms chains_after rooms_after : List ℕ} {old r : Regions} →
+survey : (size : Size) (board : List ℕ) (position : Position) (colour : Colour) {chains rooms chains_after rooms_after : List ℕ} {r : Regions} →
     position.size ≡ size → take (count_of size) position.cells ≡ take (count_of size) board →
-    Regioned position.size position.cells colour chains rooms chains_after rooms_after old r →
+    Regioned position.size position.cells colour chains rooms chains_after rooms_after r →
     Surveyed (count_of size) (near_of size) (seen size board colour) chains_after rooms_after (set_of r.vital)
 survey size board position colour same copied said =
     surveyed_read position.size size position.cells board colour same copied
@@ -26,21 +26,21 @@ survey size board position colour same copied said =
 
 pub weak-chain-requires : goal.weak-chain-requires
 weak-chain-requires c =
-    let read = survey c.args.size c.args.board.now c.in-Ok.position c.args.colour c.in-Ok.ensures.1 c.in-Ok.ensures.2 c.in-Ok-write.ensures.1 in
+    let read = survey c.args.size c.args.board.now c.in-Ok.position c.args.colour c.in-Ok.ensures.1 c.in-Ok.ensures.2 c.in-Ok-new.ensures.1 in
     record {
       celled = search rules;
       chained = search rules;
-      inside = λ p below is. omega (arith, label_below c.args.board.now c.args.colour {chains = c.write.new.chains} read.chain_labels p below is);
+      inside = λ p below is. omega (arith, label_below c.args.board.now c.args.colour {chains = c.new-2.new.chains} read.chain_labels p below is);
     }
 
 pub returns-in-default-weak-chain : goal.returns-in-default-weak-chain
 returns-in-default-weak-chain c =
     all_held (graph c.args.size.width c.args.size.height) c.args.board.now c.args.colour
-    (survey c.args.size c.args.board.now c.in-Ok.position c.args.colour c.in-Ok.ensures.1 c.in-Ok.ensures.2 c.in-Ok-write.ensures.1) c.in-default-weak-chain.ensures
+    (survey c.args.size c.args.board.now c.in-Ok.position c.args.colour c.in-Ok.ensures.1 c.in-Ok.ensures.2 c.in-Ok-new.ensures.1) c.in-default-weak-chain.ensures
 
 pub returns : goal.returns
 returns c =
-    let read = survey c.args.size c.args.board.now c.in-Ok.position c.args.colour c.in-Ok.ensures.1 c.in-Ok.ensures.2 c.in-Ok-write.ensures.1 in
+    let read = survey c.args.size c.args.board.now c.in-Ok.position c.args.colour c.in-Ok.ensures.1 c.in-Ok.ensures.2 c.in-Ok-new.ensures.1 in
     let weak = c.in-Some.ensures in
-    let below = label_below c.args.board.now c.args.colour {chains = c.write.new.chains} read.chain_labels weak.stone weak.below weak.is in
-    aimed (graph c.args.size.width c.args.size.height) {cells = c.args.board.now} {chains = c.write.new.chains} {rooms = c.write.new.rooms} {colour = c.args.colour} c.args.size.few.1 read (c.vital.ensures.value (omega (arith, below, weak.label))) weak
+    let below = label_below c.args.board.now c.args.colour {chains = c.new-2.new.chains} read.chain_labels weak.stone weak.below weak.is in
+    aimed (graph c.args.size.width c.args.size.height) {cells = c.args.board.now} {chains = c.new-2.new.chains} {rooms = c.new-2.new.rooms} {colour = c.args.colour} c.args.size.few.1 read (c.vital.ensures.value (omega (arith, below, weak.label))) weak

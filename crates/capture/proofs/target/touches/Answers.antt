@@ -8,9 +8,9 @@ loop-k-init c = untouched_start
 
 pub loop-k-preserved : goal.loop-k-preserved
 loop-k-preserved c =
-    elim c.match-neighbour.branch [
-      | in-Some+else-chains-q w ↦ untouched_other w.in-Some.q c.loop-k.invariant c.neighbour.ensures.value w.in-Some.is w.if-chains-q.false
-      | in-default w ↦ untouched_none c.loop-k.invariant c.neighbour.ensures.value w.in-default.is
+    elim c.match-beside.branch [
+      | in-Some+else-chains-q w ↦ untouched_other w.in-Some.q c.loop-k.invariant c.beside.ensures.value w.in-Some.is w.if-chains-q.false
+      | in-default w ↦ untouched_none c.loop-k.invariant c.beside.ensures.value w.in-default.is
     ]
 
 pub returns : goal.returns

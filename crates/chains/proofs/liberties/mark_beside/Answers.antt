@@ -11,7 +11,7 @@ loop-k-init c = marking_start
 
 pub loop-k-preserved : goal.loop-k-preserved
 loop-k-preserved c =
-    elim c.match-neighbour.branch [
+    elim c.match-beside.branch [
       | in-Some+then-is-stone w ↦
           let stone = sym w.is_stone.ensures ∙ w.if-is-stone.true in
           marking_step c.loop-k.invariant w.marks-is w.in-Some.ensures.value w.in-Some.ensures.sound.0
