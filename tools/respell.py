@@ -26,8 +26,10 @@ MORE = {
 TYPES = {"from_start": "FromStart", "from-start": "FromStart", "breathing-at": "BreathingAt"}
 # Lemmas on a bit of `bit_and` and of `bit_or`, which the library's words would be hidden by.
 LEMMAS = {"bit-and": "bit-bit_and", "bit-or": "bit-bit_or"}
+# A statement that would have the name of a case of the refusals.
+STATEMENTS = {"Not-shown": "Unshown"}
 # Names that stay or are chosen by hand.
-CHOSEN = TYPES | LEMMAS
+CHOSEN = TYPES | LEMMAS | STATEMENTS
 
 
 def files(kind, ending):
@@ -62,6 +64,11 @@ def respelled(name):
     return name.replace("-", "_")
 
 
+def outside_strings(spell, line):
+    parts = line.split('"')
+    return '"'.join(part if k % 2 else spell(part) for k, part in enumerate(parts))
+
+
 def main():
     os.chdir(os.path.dirname(os.path.dirname(os.path.abspath(__file__))) if len(sys.argv) < 2 else sys.argv[1])
     sources = files("specs", "antt") + files("proofs", "antt")
@@ -76,7 +83,8 @@ def main():
         out = []
         for line in lines:
             comment = line.strip().startswith(("//", "--"))
-            out.append(line if comment or '"' in line else pattern.sub(lambda m: table[m.group(1)], line))
+            spell = lambda text: pattern.sub(lambda m: table[m.group(1)], text)
+            out.append(line if comment else outside_strings(spell, line))
         text = "\n".join(out)
         if out != lines:
             open(path, "w", encoding="utf-8").write(text)

@@ -74,5 +74,5 @@ pub record MarkedStone (size : Size) (cells : List ℕ) (point chains rooms move
   pub marked : IsMarked size cells point colour e
 
 -- why no row is shown: the first line that applies, or that the stone is marked
-abbrev pub NotShown : Size → List ℕ → ℕ → ℕ → ℕ → ℕ → Refusal → Type 0
-NotShown size cells point chains rooms moves e = (Some (listed e) ≡ show_refusal size cells point chains rooms moves) ⊎ MarkedStone size cells point chains rooms moves e
+abbrev pub Unshown : Size → List ℕ → ℕ → ℕ → ℕ → ℕ → Refusal → Type 0
+Unshown size cells point chains rooms moves e = (Some (listed e) ≡ show_refusal size cells point chains rooms moves) ⊎ MarkedStone size cells point chains rooms moves e

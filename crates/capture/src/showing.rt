@@ -4,7 +4,7 @@ ghost use Rattle.std.specs.Prelude.{◌≡◌, ℕ, ◌<◌, ◌≤◌, length, 
 ghost use Rattle.grid.specs.Refusals.{listed};
 ghost use Rattle.chains.specs.Sized.{near_of, seen};
 ghost use Rattle.capture.specs.Row.{Unheld};
-ghost use Rattle.capture.specs.Showing.{memory_refusal, show_refusal, Fitting, Admitted, LabelsWritten, Shown, NotShown, IsMarked};
+ghost use Rattle.capture.specs.Showing.{memory_refusal, show_refusal, Fitting, Admitted, LabelsWritten, Shown, Unshown, IsMarked};
 
 use crate::capturing::write_row;
 use chains::colour::Colour;
@@ -24,7 +24,7 @@ pub fn show(
 ) -> Result<usize, Refusal>
     ensures { elim result [
       | Ok count ↦ Shown position.size position.cells point chains.old rooms.old moves.old chains.new rooms.new moves.new count
-      | Err e ↦ NotShown position.size position.cells point (length chains.old) (length rooms.old) (length moves.old) e
+      | Err e ↦ Unshown position.size position.cells point (length chains.old) (length rooms.old) (length moves.old) e
           × (chains.new ≡ chains.old) × (rooms.new ≡ rooms.old) × (moves.new ≡ moves.old)
     ] }
 {

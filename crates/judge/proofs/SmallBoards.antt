@@ -19,12 +19,12 @@ abbrev turn : ℕ → List ℕ → Turn
 turn x bytes = record { move = x; bytes = bytes }
 
 -- two stones, each with a room beside it and one between them
-pub two-stones : Judged 5 1 (codes ".X.X.") (1 ∷ 3 ∷ [])
+pub two_stones : Judged 5 1 (codes ".X.X.") (1 ∷ 3 ∷ [])
 unfolding near any through reaches
-two-stones = judged 5 1 (codes ".X.X.") (roomed 1 (0 ∷ []) (2 ∷ []) ∷ roomed 3 (2 ∷ []) (4 ∷ []) ∷ []) [] refl refl
+two_stones = judged 5 1 (codes ".X.X.") (roomed 1 (0 ∷ []) (2 ∷ []) ∷ roomed 3 (2 ∷ []) (4 ∷ []) ∷ []) [] refl refl
 
 -- with two points between them both are taken
-pub far-stones : Judged 6 1 (codes ".X..X.") []
+pub far_stones : Judged 6 1 (codes ".X..X.") []
 unfolding near any through reaches has_liberty breathing after
 far_stones =
     judged 6 1 (codes ".X..X.") []

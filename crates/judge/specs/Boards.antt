@@ -18,6 +18,6 @@ pub record Judged (w h : ℕ) (bytes : List ℕ) (marks : List ℕ) : Type 0 whe
 
 -- how three small boards are judged: the points that are marked for black on each, and none for white
 pub record ThreeBoards (one two three : List ℕ) : Type 0 where
-  pub two-stones : Judged 5 1 (codes ".X.X.") one
-  pub far-stones : Judged 6 1 (codes ".X..X.") two
+  pub two_stones : Judged 5 1 (codes ".X.X.") one
+  pub far_stones : Judged 6 1 (codes ".X..X.") two
   pub diamond : Judged 3 3 (codes ".X.X.X.X.") three

@@ -17,13 +17,13 @@ row_text w h cells row = cond (nat_lt row h) (map shown (take w (drop (row * w) 
 
 -- a refusal by its number and place
 abbrev pub refusal_text : Refusal → List ℕ
-refusal-text e = codes "refused " ++ (decimal (number_of e) ++ (codes " at " ++ decimal (place_of e)))
+refusal_text e = codes "refused " ++ (decimal (number_of e) ++ (codes " at " ++ decimal (place_of e)))
 
 -- how a record ends: whose turn it is, that it is over, or the move that is refused
 abbrev pub outcome_text : Outcome → List ℕ
-outcome-text (ToMove colour) = stone-byte colour ∷ codes " to move"
-outcome-text Over = codes "over"
-outcome-text (Refused e) = codes "move " ++ (decimal (place_of e) ++ (codes " refused " ++ decimal (number_of e)))
+outcome_text (ToMove colour) = stone_byte colour ∷ codes " to move"
+outcome_text Over = codes "over"
+outcome_text (Refused e) = codes "move " ++ (decimal (place_of e) ++ (codes " refused " ++ decimal (number_of e)))
 
 -- points one after another, a space before each
 abbrev pub points_text : List ℕ → List ℕ
@@ -37,7 +37,7 @@ chosen t (suc n) = chosen t n ++ cond (t n) (n ∷ []) []
 
 -- no points are printed as a word
 abbrev pub some_text : List ℕ → List ℕ
-some-text [] = codes " none"
+some_text [] = codes " none"
 some_text (p ∷ ps) = points_text (p ∷ ps)
 
 -- a colour's marked points
@@ -46,8 +46,8 @@ marks_text colour marked n = stone_byte colour ∷ some_text (chosen marked n)
 
 -- a chain by its first point, and the moves that take it
 abbrev pub taken_text : Colour → ℕ → List ℕ → List ℕ
-taken-text colour first moves = stone-byte colour ∷ ((32 ∷ decimal first) ++ (codes " taken by" ++ points-text moves))
+taken_text colour first moves = stone_byte colour ∷ ((32 ∷ decimal first) ++ (codes " taken by" ++ points_text moves))
 
 -- how many stones of each colour are marked
 abbrev pub counts_text : ℕ → ℕ → List ℕ
-counts-text black white = codes "X " ++ (decimal black ++ (codes " O " ++ decimal white))
+counts_text black white = codes "X " ++ (decimal black ++ (codes " O " ++ decimal white))

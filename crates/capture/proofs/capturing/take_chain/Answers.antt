@@ -6,8 +6,8 @@ use Rattle.capture.proofs.Choosing.{mine_stone}
 use Rattle.capture.proofs.Phases.{phase_end}
 use Rattle.capture.proofs.capturing.take_chain.Goals as goal
 
-pub play-liberty-count-requires : goal.play-liberty-count-requires
-play-liberty-count-requires c =
+pub play_liberty-count-requires : goal.play_liberty-count-requires
+play_liberty-count-requires c =
     record {
       celled = omega arith;
       phase = (seen c.args.size c.args.board.now c.args.colour, c.loop-board.invariant.0);
@@ -17,8 +17,8 @@ play-liberty-count-requires c =
 
 pub loop-board-preserved : goal.loop-board-preserved
 loop-board-preserved c = (
-  (c.play-liberty-count.ensures.nearer (seen c.args.size c.args.board.now c.args.colour) c.loop-board.invariant.0).phase,
-  λ b lent so_far. c.play-liberty-count.ensures.row b lent (c.loop-board.invariant.1 b lent so_far),
+  (c.play_liberty-count.ensures.nearer (seen c.args.size c.args.board.now c.args.colour) c.loop-board.invariant.0).phase,
+  λ b lent so_far. c.play_liberty-count.ensures.row b lent (c.loop-board.invariant.1 b lent so_far),
 )
 
 pub returns : goal.returns

@@ -11,15 +11,15 @@ pub loop-board-init : goal.loop-board-init
 loop-board-init c = (search rules, row_start c.requires.good c.requires.stands c.requires.long, record { stone = inl c.requires.stone; unheld = c.requires.unheld })
 
 pub loop-board-smaller : goal.loop-board-smaller
-loop-board-smaller c = captured_fewer c.capture-chain-played.ensures.captured.1
+loop-board-smaller c = captured_fewer c.capture_chain-played.ensures.captured.1
 
 pub loop-board-preserved : goal.loop-board-preserved
 loop-board-preserved c =
     let below = (view_byte (count_of c.args.size) c.args.cells c.args.colour mine c.args.point mine_stone c.requires.stone).0 in
     let stone = byte_view (count_of c.args.size) c.loop-board.board c.args.colour mine c.args.point mine_stone below (c.loop-board-test.true ∙ c.byte.ensures) in (
       search rules,
-      c.capture-chain-played.ensures.row (seen c.args.size c.args.cells c.args.colour) c.args.moves.now c.loop-board.invariant.1,
-      captured_wanted (graph c.args.size.width c.args.size.height) c.capture-chain-played.ensures.captured.1 stone c.loop-board.invariant.2.unheld,
+      c.capture_chain-played.ensures.row (seen c.args.size c.args.cells c.args.colour) c.args.moves.now c.loop-board.invariant.1,
+      captured_wanted (graph c.args.size.width c.args.size.height) c.capture_chain-played.ensures.captured.1 stone c.loop-board.invariant.2.unheld,
     )
 
 pub returns : goal.returns

@@ -13,7 +13,7 @@ use Rattle.capture.proofs.Aiming.{not_unwritten, label_below, aimed, all_held, s
 use Rattle.capture.proofs.target.aim.Goals as goal
 
 pub unreachable-requires : goal.unreachable-requires
-unreachable-requires c = not_unwritten (count_of c.args.size) c.args.board.now (listed c.in-default.field-0) c.requires.long c.requires.good c.in-default.ensures
+unreachable-requires c = not_unwritten (count_of c.args.size) c.args.board.now (listed c.in_default.field-0) c.requires.long c.requires.good c.in_default.ensures
 
 -- what the regions say of the board
 survey : (size : Size) (board : List ℕ) (position : Position) (colour : Colour) {chains rooms chains_after rooms_after : List ℕ} {r : Regions} →
@@ -24,8 +24,8 @@ survey size board position colour same copied said =
     surveyed_read position.size size position.cells board colour same copied
     (record { chain_labels = said.chained colour; room_labels = said.roomed; vital_rooms = said.vital })
 
-pub weak-chain-requires : goal.weak-chain-requires
-weak-chain-requires c =
+pub weak_chain-requires : goal.weak_chain-requires
+weak_chain-requires c =
     let read = survey c.args.size c.args.board.now c.in-Ok.position c.args.colour c.in-Ok.ensures.1 c.in-Ok.ensures.2 c.in-Ok-new.ensures.1 in
     record {
       celled = search rules;
@@ -33,10 +33,10 @@ weak-chain-requires c =
       inside = λ p below is. omega (arith, label_below c.args.board.now c.args.colour {chains = c.new-2.new.chains} read.chain_labels p below is);
     }
 
-pub returns-in-default-weak-chain : goal.returns-in-default-weak-chain
-returns-in-default-weak-chain c =
+pub returns-in_default-weak_chain : goal.returns-in_default-weak_chain
+returns-in_default-weak_chain c =
     all_held (graph c.args.size.width c.args.size.height) c.args.board.now c.args.colour
-    (survey c.args.size c.args.board.now c.in-Ok.position c.args.colour c.in-Ok.ensures.1 c.in-Ok.ensures.2 c.in-Ok-new.ensures.1) c.in-default-weak-chain.ensures
+    (survey c.args.size c.args.board.now c.in-Ok.position c.args.colour c.in-Ok.ensures.1 c.in-Ok.ensures.2 c.in-Ok-new.ensures.1) c.in_default-weak_chain.ensures
 
 pub returns : goal.returns
 returns c =

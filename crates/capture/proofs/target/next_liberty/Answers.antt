@@ -1,16 +1,16 @@
 use Rattle.std.proofs.Common.{sym, arith}
 use Rattle.capture.proofs.Seeking.{seen_start, seen_skip, seen_vital, seen_all}
 use Rattle.capture.proofs.target.next_liberty.Goals as goal
-use Rattle.capture.proofs.target.next_liberty.Goals.{then-is-liberty+else-not-contains, else-is-liberty}
+use Rattle.capture.proofs.target.next_liberty.Goals.{then-is_liberty+else-not-contains, else-is_liberty}
 
 pub loop-p-init : goal.loop-p-init
 loop-p-init c = seen_start
 
 pub loop-p-preserved : goal.loop-p-preserved
 loop-p-preserved c =
-    elim c.if-is-liberty.branch [
-      | then-is-liberty+else-not-contains w ↦ seen_vital c.loop-p.invariant w.last-is (c.is-liberty.ensures.yes w.if-is-liberty.true) (sym w.if-not-contains.ensures.value)
-      | else-is-liberty w ↦ seen_skip c.if-is-liberty.last c.loop-p.invariant w.last-is (c.is-liberty.ensures.no w.if-is-liberty.false)
+    elim c.if-is_liberty.branch [
+      | then-is_liberty+else-not-contains w ↦ seen_vital c.loop-p.invariant w.last-is (c.is_liberty.ensures.yes w.if-is_liberty.true) (sym w.if-not-contains.ensures.value)
+      | else-is_liberty w ↦ seen_skip c.if-is_liberty.last c.loop-p.invariant w.last-is (c.is_liberty.ensures.no w.if-is_liberty.false)
     ]
 
 pub returns : goal.returns

@@ -3,16 +3,16 @@ use Rattle.chains.specs.Marks.{stone_mark}
 use Rattle.chains.specs.Sized.{count_of}
 use Rattle.chains.proofs.Marking.{stones_start, stones_skip, stones_step}
 use Rattle.chains.proofs.liberties.mark_stones.Goals as goal
-use Rattle.chains.proofs.liberties.mark_stones.Goals.{then-is-stone, else-is-stone}
+use Rattle.chains.proofs.liberties.mark_stones.Goals.{then-is_stone, else-is_stone}
 
 pub loop-p-init : goal.loop-p-init
 loop-p-init c = stones_start
 
 pub loop-p-preserved : goal.loop-p-preserved
 loop-p-preserved c =
-    elim c.if-is-stone.branch [
-      | then-is-stone w ↦ stones_step c.loop-p.invariant w.marks-is (omega arith) (sym c.is_stone.ensures ∙ w.if-is-stone.true)
-      | else-is-stone w ↦ stones_skip c.loop-p.invariant w.marks-is (sym c.is_stone.ensures ∙ w.if-is-stone.false)
+    elim c.if-is_stone.branch [
+      | then-is_stone w ↦ stones_step c.loop-p.invariant w.marks-is (omega arith) (sym c.is_stone.ensures ∙ w.if-is_stone.true)
+      | else-is_stone w ↦ stones_skip c.loop-p.invariant w.marks-is (sym c.is_stone.ensures ∙ w.if-is_stone.false)
     ]
 
 pub returns : goal.returns

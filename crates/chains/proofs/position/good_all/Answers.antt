@@ -8,6 +8,6 @@ pub returns : goal.returns
 returns c =
     let bytes = c.args.bytes.now in
     record {
-      value = c.good-front.ensures.value ∙ ap (prefix_len is_point) (take_all (length bytes) bytes (omega arith));
-      bound = c.good-front.ensures.bound;
+      value = c.good_front.ensures.value ∙ ap (prefix_len is_point) (take_all (length bytes) bytes (omega arith));
+      bound = c.good_front.ensures.bound;
     }

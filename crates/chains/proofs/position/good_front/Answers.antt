@@ -3,8 +3,8 @@ use Rattle.chains.specs.Views.{is_point}
 use Rattle.chains.proofs.Cells.{leading_take}
 use Rattle.chains.proofs.position.good_front.Goals as goal
 
-pub returns-then-not-is-point : goal.returns-then-not-is-point
-returns-then-not-is-point c = record {
+pub returns-then-not-is_point : goal.returns-then-not-is_point
+returns-then-not-is_point c = record {
   value = leading_take is_point c.args.count c.args.bytes.now c.loop-p.p c.requires (omega arith) c.loop-p.invariant (λ l. search rules);
   bound = omega arith;
   good = c.loop-p.invariant;

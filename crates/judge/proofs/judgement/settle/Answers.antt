@@ -7,7 +7,7 @@ use Rattle.judge.proofs.judgement.settle.Goals as goal
 pub returns : goal.returns
 returns c =
     record {
-      right = judges_marks c.args.size.width c.args.size.height (λ p. get_or c.mark-stones.result p false) c.requires.stands c.requires.chained c.requires.parted c.requires.sets
-          c.args.size.few.1 c.all-left.ensures c.points.ensures.value c.strike-left.ensures.rounds c.strike-left.ensures.enough c.mark-stones.ensures;
-      past = λ p l. c.mark-stones.ensures p ∙ kept_past (count_of c.args.size) c.args.cells.now c.args.colour c.args.chains.now c.strike-left.result.chains.words p l;
+      right = judges_marks c.args.size.width c.args.size.height (λ p. get_or c.mark_stones.result p false) c.requires.stands c.requires.chained c.requires.parted c.requires.sets
+          c.args.size.few.1 c.all_left.ensures c.points.ensures.value c.strike-left.ensures.rounds c.strike-left.ensures.enough c.mark_stones.ensures;
+      past = λ p l. c.mark_stones.ensures p ∙ kept_past (count_of c.args.size) c.args.cells.now c.args.colour c.args.chains.now c.strike-left.result.chains.words p l;
     }

@@ -3,8 +3,8 @@ use Rattle.std.proofs.lemmas.List.{take_rest}
 use Rattle.std.proofs.lemmas.Bool.{ne_eqb}
 use Rattle.notation.proofs.board.exactly.Goals as goal
 
-pub returns-then-bytes-lt-SIZE-BYTES : goal.returns-then-bytes-lt-SIZE-BYTES
-returns-then-bytes-lt-SIZE-BYTES c = ne_eqb _ _ (omega arith)
+pub returns-then-bytes-lt-SIZE_BYTES : goal.returns-then-bytes-lt-SIZE_BYTES
+returns-then-bytes-lt-SIZE_BYTES c = ne_eqb _ _ (omega arith)
 
 pub returns-then-cells-points : goal.returns-then-cells-points
 returns-then-cells-points c =

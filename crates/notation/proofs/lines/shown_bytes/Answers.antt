@@ -5,7 +5,7 @@ use Rattle.notation.proofs.lines.shown_bytes.Goals as goal
 
 pub loop-byte-preserved : goal.loop-byte-preserved
 loop-byte-preserved c =
-    let pushed = c.in-ok-push.ensures.bytes in
+    let pushed = c.in_ok-push.ensures.bytes in
     let one = c.push.ensures.ascii c.shown.ensures.ascii in
     let more = map_more shown c.args.bytes.now c.loop-byte.byte-index 0 c.loop-byte-test.true in
     let value = c.shown.ensures.value in

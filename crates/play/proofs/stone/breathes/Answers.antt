@@ -4,7 +4,7 @@ use Rattle.play.proofs.Settling.{marked_breathes, other_breathes}
 use Rattle.play.proofs.stone.breathes.Goals as goal
 
 pub returns-then-cells-point : goal.returns-then-cells-point
-returns-then-cells-point c = marked_breathes c.args.colour c.breath_marks.ensures c.requires (c.if-cells-point.true ∙ c.byte.ensures)
+returns-then-cells-point c = marked_breathes c.args.colour c.breath-marks.ensures c.requires (c.if-cells-point.true ∙ c.byte.ensures)
 
 pub returns-else-cells-point : goal.returns-else-cells-point
 returns-else-cells-point c =

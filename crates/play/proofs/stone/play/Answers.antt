@@ -5,5 +5,5 @@ use Rattle.play.proofs.stone.play.Goals as goal
 
 pub returns : goal.returns
 returns c =
-    let few : count_of c.args.size ≤ length c.in-ok-made.made.cells = search rules in
-    stone_played c.in-ok-before.ensures c.in-ok-free-point.ensures c.in-ok-made.ensures few c.write-points.ensures
+    let few : count_of c.args.size ≤ length c.in_ok-made.made.cells = search rules in
+    stone_played c.in_ok-before.ensures c.in_ok-free_point.ensures c.in_ok-made.ensures few c.write_points.ensures

@@ -9,10 +9,10 @@ pub turn-requires : goal.turn-requires
 turn-requires c = kept_countable c.loop-number.invariant c.args.size.few.1 (omega arith)
 
 pub returns-in-Err : goal.returns-in-Err
-returns-in-Err c = c.in-Err.ensures (board_of c.args.size.width c.args.size.height c.args.start.cells) (moves_of c.args.moves.now) (facing_next c.args.moves.now c.loop-number.invariant c.loop-number-test.true c.read-move.ensures)
+returns-in-Err c = c.in-Err.ensures (board_of c.args.size.width c.args.size.height c.args.start.cells) (moves_of c.args.moves.now) (facing_next c.args.moves.now c.loop-number.invariant c.loop-number-test.true c.read_move.ensures)
 
 pub loop-number-preserved : goal.loop-number-preserved
-loop-number-preserved c = c.in-Ok.ensures (board_of c.args.size.width c.args.size.height c.args.start.cells) (moves_of c.args.moves.now) (facing_next c.args.moves.now c.loop-number.invariant c.loop-number-test.true c.read-move.ensures)
+loop-number-preserved c = c.in-Ok.ensures (board_of c.args.size.width c.args.size.height c.args.start.cells) (moves_of c.args.moves.now) (facing_next c.args.moves.now c.loop-number.invariant c.loop-number-test.true c.read_move.ensures)
 
 pub returns : goal.returns
 returns c =

@@ -9,7 +9,7 @@ loop-p-init c = finding_start (omega arith) (omega arith) (λ i l. get_or-replic
 
 pub loop-p-preserved : goal.loop-p-preserved
 loop-p-preserved c =
-    finding_step c.vital-point.new.firsts c.requires c.args.size.few.1 (omega arith) c.loop-p.invariant (omega arith) c.vital-point.ensures.first c.vital-point.ensures.bits
+    finding_step c.vital_point.new.firsts c.requires c.args.size.few.1 (omega arith) c.loop-p.invariant (omega arith) c.vital_point.ensures.first c.vital_point.ensures.bits
 
 pub returns : goal.returns
 returns c = finding_end (count_of c.args.size) (omega arith) c.loop-p.invariant
