@@ -71,7 +71,7 @@ fn accepted(rt: HostRuntime) -> Result<(), Fail> {
 fn round_trips(rt: HostRuntime) -> Result<(), Fail> {
     let mut lent = [BEFORE; 9];
     let bytes = rewrite(rt.alloc(), b"\x03\x02.X.O.X", &mut lent)?;
-    assert_eq!(rt; bytes.as_slice(), b"\x03\x02.X.O.X");
+    assert_eq!(rt; bytes.as_slice(), b"\x03\x02.X.O.X".as_slice());
     assert_eq!(rt; lent, *b".X.O.X###");
     Ok(())
 }
