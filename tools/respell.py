@@ -23,7 +23,7 @@ MORE = {
     "past-rooms", "same-chains", "same-rooms", "struck-same", "to-d", "vital-x", "was-p", "was-q", "y-all", "y-below", "y-clear",
     "y-liberty", "y-open", "y-vital", "z-all", "z-below", "z-clear", "z-liberty", "z-open", "z-vital",
 }
-TYPES = {"from_start": "FromStart", "from-start": "FromStart", "breathing-at": "BreathingAt"}
+TYPES = {"from_start": "FromStart", "from-start": "FromStart", "breathing-at": "BreathingAt", "Goes_on": "GoesOn"}
 # Lemmas on a bit of `bit_and` and of `bit_or`, which the library's words would be hidden by.
 LEMMAS = {"bit-and": "bit-bit_and", "bit-or": "bit-bit_or"}
 # A statement that would have the name of a case of the refusals.

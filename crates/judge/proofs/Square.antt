@@ -3,7 +3,7 @@ use Rattle.grid.specs.Grid.{points, near}
 use Rattle.grid.proofs.Square.{graph}
 use Rattle.chains.proofs.Square.{stands_stand, stand_stands}
 use Rattle.play.proofs.Moves as moves
-use Rattle.judge.specs.Promise.{StaysSafe, Goes_on}
+use Rattle.judge.specs.Promise.{StaysSafe, GoesOn}
 use Rattle.judge.specs.AnyBoard.{StaysSafeOver}
 use Rattle.judge.proofs.Alive.{stays_safe_over}
 
@@ -13,6 +13,6 @@ unfolding StaysSafe StaysSafeOver
 stays_safe w h b stands p m stays = stays_safe_over (points w h) (near w h) (graph w h) b (stands_stand stands) p m stays
 
 -- boards that can stand go on standing
-pub goes_on : Goes_on
-unfolding Goes_on
+pub goes_on : GoesOn
+unfolding GoesOn
 goes_on w h b d x stands inside played = stand_stands (moves.goes_on (graph w h) (stands_stand stands) played)

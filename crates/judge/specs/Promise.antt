@@ -43,5 +43,5 @@ unfoldable pub StaysSo : Type 0
 StaysSo = (near : Near) (b d : Board) (s : Marks) → Safe near b s → Comes near b d → Safe near d s
 
 -- 6. boards that can stand go on standing
-unfoldable pub Goes_on : Type 0
-Goes_on = (w h : ℕ) (b d : Board) (x : ℕ) → Stands w h b → x < points w h → Played (near w h) b x d → Stands w h d
+unfoldable pub GoesOn : Type 0
+GoesOn = (w h : ℕ) (b d : Board) (x : ℕ) → Stands w h b → x < points w h → Played (near w h) b x d → Stands w h d

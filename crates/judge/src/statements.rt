@@ -8,7 +8,7 @@ ghost use Rattle.chains.specs.Board.{mine, Board};
 ghost use Rattle.grid.specs.Grid.{near, points};
 ghost use Rattle.grid.specs.Graph.{Near};
 ghost use Rattle.std.specs.Prelude.{◌≡◌, ℕ, ◌<◌, true};
-ghost use Rattle.judge.specs.Promise.{SafeStays, StaysSafe, Together, OneJudgement, StaysSo, Goes_on};
+ghost use Rattle.judge.specs.Promise.{SafeStays, StaysSafe, Together, OneJudgement, StaysSo, GoesOn};
 
 /// Chains with two vital rooms each are never taken, though their side passes for ever.
 pub fn safe_stays()
@@ -37,5 +37,5 @@ pub fn stays_so()
 
 /// If every stone has a liberty, every stone has one after an allowed move too.
 pub fn goes_on()
-    ensures { Goes_on }
+    ensures { GoesOn }
 {}
