@@ -3,7 +3,8 @@
 # The cost of starting the program is taken off by measuring 2 and 12 boards. Needs valgrind, g++ and python3.
 set -eu
 cd "$(dirname "$0")/.."
-[ -x target/bin/judge_many ] || rt check judge_many >&2
+ours=crates/judge_many/out/judge_many
+[ -x $ours ] || (cd crates/judge_many && rt run < /dev/null >&2)
 bench/build.sh
 count() { # program, input
     valgrind --tool=callgrind --callgrind-out-file=/dev/null "$1" < "$2" 2>&1 > /dev/null | awk '/Collected/ { print $4 }'
@@ -15,8 +16,8 @@ per_board() { # program, kind, side
 }
 for kind in empty single snake eyes random late; do
     for side in 5 9 13 19; do
-        ours=$(per_board target/bin/judge_many "$kind" "$side")
+        count=$(per_board $ours "$kind" "$side")
         theirs=$(per_board target/bench/judge_many "$kind" "$side")
-        echo "$kind $side $ours $theirs"
+        echo "$kind $side $count $theirs"
     done
 done

@@ -21,7 +21,7 @@ MORE = {
     "all-kept", "all-open", "b-past", "d-below", "d-empty", "d-past", "i-in", "i-small", "in-class", "is-in", "is-shut", "is-still",
     "j-in", "near-q", "near-r", "no-liberty", "none-struck", "none-there", "of-mine", "of-rest", "open-same", "past-chains",
     "past-rooms", "same-chains", "same-rooms", "struck-same", "to-d", "vital-x", "was-p", "was-q", "y-all", "y-below", "y-clear",
-    "y-liberty", "y-open", "y-vital", "z-all", "z-below", "z-clear", "z-liberty", "z-open", "z-vital",
+    "old-moves", "y-liberty", "y-open", "y-vital", "z-all", "z-below", "z-clear", "z-liberty", "z-open", "z-vital",
 }
 TYPES = {"from_start": "FromStart", "from-start": "FromStart", "breathing-at": "BreathingAt", "Goes_on": "GoesOn"}
 # Lemmas on a bit of `bit_and` and of `bit_or`, which the library's words would be hidden by.

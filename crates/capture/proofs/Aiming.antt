@@ -3,7 +3,7 @@ use Rattle.std.proofs.Common.{◌≡◌, ℕ, ◌+◌, ◌<◌, ◌≤◌, true,
 use Rattle.std.specs.List.{prefix_len}
 use Rattle.std.proofs.lemmas.Bool.{cases_eq, le-leb}
 use Rattle.grid.specs.Graph.{Near, Graph}
-use Rattle.chains.specs.Board.{mine, Board, Joined, at}
+use Rattle.chains.specs.Board.{mine, Board, Joined}
 use Rattle.chains.specs.Labels.{ChainLabels}
 use Rattle.chains.specs.Linked.{here}
 use Rattle.grid.specs.declared.size.Size.{Size}
@@ -119,23 +119,13 @@ all_held {n} {near} g cells {chains} {rooms} colour survey weak p m = (all_mine 
 pub none_weak_start : {cells chains : List ℕ} {colour : Colour} {sets : ℕ → List ℕ} → NoneWeak 0 cells chains colour sets
 none_weak_start = record { many = λ p l e. absurd (omega arith) }
 
--- a point without a stone of the colour
-pub none_weak_skip : {k : ℕ} {cells chains : List ℕ} {colour : Colour} {sets : ℕ → List ℕ} → NoneWeak k cells chains colour sets → (get_or cells k 0 ≡ stone_byte colour → ⊥) →
-    NoneWeak (k + 1) cells chains colour sets
-none_weak_skip {k} {cells} {chains} {colour} {sets} s apart = record {
-  many = λ p l e. elim (cases_eq p k) [
-    | inl same ↦ absurd (apart (subst (λ (i : ℕ). get_or cells i 0 ≡ stone_byte colour) same e))
-    | inr other ↦ s.many p (omega arith) e
-  ];
-}
-
--- a stone whose chain has two vital rooms
-pub none_weak_more : {k : ℕ} {cells chains : List ℕ} {colour : Colour} {sets : ℕ → List ℕ} (words : List ℕ) → NoneWeak k cells chains colour sets → words ≡ sets (get_or chains k 0) →
-    2 ≤ shared_below 384 words words → NoneWeak (k + 1) cells chains colour sets
-none_weak_more {k} {cells} {chains} {colour} {sets} words s is many = record {
+-- a point more, whose chain has two vital rooms if a stone of the colour stands there
+pub none_weak_more : {k : ℕ} {cells chains : List ℕ} {colour : Colour} {sets : ℕ → List ℕ} → NoneWeak k cells chains colour sets →
+    (get_or cells k 0 ≡ stone_byte colour → 2 ≤ shared_below 384 (sets (get_or chains k 0)) (sets (get_or chains k 0))) → NoneWeak (k + 1) cells chains colour sets
+none_weak_more {k} {cells} {chains} {colour} {sets} s two = record {
   many = λ p l e. elim (cases_eq p k) [
     | inl same ↦
-        subst (λ (i : ℕ). 2 ≤ shared_below 384 (sets (get_or chains i 0)) (sets (get_or chains i 0))) (sym same) (subst (λ (ws : List ℕ). 2 ≤ shared_below 384 ws ws) is many)
+        subst (λ (i : ℕ). 2 ≤ shared_below 384 (sets (get_or chains i 0)) (sets (get_or chains i 0))) (sym same) (two (subst (λ (i : ℕ). get_or cells i 0 ≡ stone_byte colour) same e))
     | inr other ↦ s.many p (omega arith) e
   ];
 }

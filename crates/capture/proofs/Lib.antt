@@ -1,3 +1,4 @@
+pub mod Carrying
 pub mod Choosing
 pub mod Rows
 pub mod Seeking

@@ -1,9 +1,9 @@
 -- What the auditor finds: the first point on which the marks are not those of the judgement.
-use Rattle.std.proofs.Common.{◌≡◌, ℕ, ◌<◌, ◌≤◌, Bool, false, not, List, length, get_or, sym, refl, ◌∙◌, inl, inr, arith}
+use Rattle.std.proofs.Common.{◌≡◌, ℕ, ◌<◌, ◌≤◌, Bool, false, List, length, get_or, sym, refl, ◌∙◌, inl, inr, arith}
 use Rattle.std.proofs.lemmas.List.{get_or_past}
 use Rattle.std.proofs.lemmas.Bool.{both_ways, cases_lt, eq-eqb, ne_eqb, not-true, not-false}
 use Rattle.grid.specs.Grid.{points, near}
-use Rattle.chains.specs.Board.{none, mine, Board}
+use Rattle.chains.specs.Board.{mine, Board}
 use Rattle.chains.specs.Stands.{Stands}
 use Rattle.chains.proofs.States.{none_mine}
 use Rattle.play.specs.Played.{Stays}

@@ -89,11 +89,11 @@ pub record VerdictExact (w h : ℕ) (b : Board) (s : Marks) (lent moves : List �
   pub exact : Judges w h b s → v ≡ Right
 
 -- no line of the list applies, the verdict is exact, and the labels are written
-pub record Audited (size : Size) (cells : List ℕ) (number : ℕ) (marks old_chains old_rooms old-moves chains rooms moves : List ℕ) (v : Verdict) : Type 0 where
+pub record Audited (size : Size) (cells : List ℕ) (number : ℕ) (marks old_chains old_rooms old_moves chains rooms moves : List ℕ) (v : Verdict) : Type 0 where
   pub colour : Colour
   pub number_of : numbered colour ≡ number
-  pub no_line : audit_refusal size cells number marks (length old_chains) (length old_rooms) (length old-moves) ≡ None
-  pub verdict : VerdictExact size.width size.height (seen size cells colour) (marked_by marks) old-moves moves v
+  pub no_line : audit_refusal size cells number marks (length old_chains) (length old_rooms) (length old_moves) ≡ None
+  pub verdict : VerdictExact size.width size.height (seen size cells colour) (marked_by marks) old_moves moves v
   pub labels : LabelsWritten size cells colour old_chains old_rooms chains rooms
 
 -- the first point, of those that have a byte, on which the marks are not those of the judged entries

@@ -1,4 +1,5 @@
 pub mod Auditing
+pub mod Judged
 pub mod Row
 pub mod Showing
 pub mod Statements

@@ -54,11 +54,11 @@ pub record LabelsWritten (size : Size) (cells : List ℕ) (colour : Colour) (old
   pub rooms_past : drop (count_of size) rooms ≡ drop (count_of size) old_rooms
 
 -- no line of the list applies, the stone at the point has that colour, and the first k entries of the moves are a row that takes it
-pub record Shown (size : Size) (cells : List ℕ) (point : ℕ) (old_chains old_rooms old-moves chains rooms moves : List ℕ) (k : ℕ) : Type 0 where
+pub record Shown (size : Size) (cells : List ℕ) (point : ℕ) (old_chains old_rooms old_moves chains rooms moves : List ℕ) (k : ℕ) : Type 0 where
   pub colour : Colour
-  pub no_line : show_refusal size cells point (length old_chains) (length old_rooms) (length old-moves) ≡ None
+  pub no_line : show_refusal size cells point (length old_chains) (length old_rooms) (length old_moves) ≡ None
   pub there : standing (count_of size) cells point ≡ Some colour
-  pub row : RowShown size.width size.height (seen size cells colour) point old-moves moves k
+  pub row : RowShown size.width size.height (seen size cells colour) point old_moves moves k
   pub labels : LabelsWritten size cells colour old_chains old_rooms chains rooms
 
 -- the refusal of a stone that can't be taken though its side passes for ever

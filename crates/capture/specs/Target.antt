@@ -61,7 +61,7 @@ pub record Weak (n : ℕ) (cells chains : List ℕ) (colour : Colour) (sets : �
 pub record NoneWeak (k : ℕ) (cells chains : List ℕ) (colour : Colour) (sets : ℕ → List ℕ) : Type 0 where
   pub many : (p : ℕ) → p < k → slice_index cells p ≡ stone_byte colour → 2 ≤ shared_below 384 (sets (slice_index chains p)) (sets (slice_index chains p))
 
--- the first chain of that kind, or that there is none
+-- a chain of that kind, or that there is none
 abbrev pub WeakOrNone : ℕ → List ℕ → List ℕ → Colour → (ℕ → List ℕ) → Option ℕ → Type 0
 WeakOrNone n cells chains colour sets None = NoneWeak n cells chains colour sets
 WeakOrNone n cells chains colour sets (Some c) = Weak n cells chains colour sets c

@@ -4,6 +4,7 @@ ghost use Rattle.std.specs.Prelude.{◌≡◌, ℕ, ◌<◌, ◌≤◌, true, fa
 ghost use Rattle.std.specs.List.{prefix_len};
 ghost use Rattle.grid.specs.Refusals.{listed};
 ghost use Rattle.chains.specs.Board.{mine};
+ghost use Rattle.chains.specs.Computed.{is_state};
 ghost use Rattle.chains.specs.Sized.{count_of, seen};
 ghost use Rattle.chains.specs.Stands.{Stands};
 ghost use Rattle.judge.specs.Promise.{Judges};
@@ -137,7 +138,8 @@ fn first_wrong(marks: &[u8], judged: &Marks) -> Option<usize>
 }
 
 /// Whether a stone of the colour stands at the point.
-fn is_own(position: Position, colour: Colour, point: usize) -> bool
+pub(crate) fn is_own(position: Position, colour: Colour, point: usize) -> bool
+    ensures value { result ≡ is_state mine (seen position.size position.cells colour point) }
     ensures yes { result ≡ true → seen position.size position.cells colour point ≡ mine }
     ensures no { result ≡ false → seen position.size position.cells colour point ≢ mine }
 {

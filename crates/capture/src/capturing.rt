@@ -14,6 +14,7 @@ use chains::labels::MAX_POINTS;
 use chains::position::Position;
 use grid::size::Size;
 use play::stone::play;
+use rooms::region_sets::Regions;
 
 /// Plays a stone that the rules allow.
 fn put_stone(size: Size, board: &mut [u8], colour: Colour, point: usize, turn: usize)
@@ -71,10 +72,12 @@ fn take_chain(
     count
 }
 
-/// Takes the first chain that has fewer than two vital rooms: how many moves the row has then.
+/// Takes a chain that has fewer than two vital rooms, that of the wanted stone if it can be: how many moves the row has then. The regions are lent to be written over.
 fn capture_chain(
     size: Size,
     colour: Colour,
+    wanted: usize,
+    regions: &mut Regions,
     board: &mut [u8],
     moves: &mut [u16],
     played: usize,
@@ -85,7 +88,7 @@ fn capture_chain(
     ensures captured { SomeCaptured (count_of size) (near_of size) (seen size board.old colour) (seen size board.new colour) }
     ensures row { GoesOnTo size.width size.height colour board.old moves.old played board.new moves.new result }
 {
-    let Some(target) = aim(size, board, colour) else {
+    let Some(target) = aim(size, board, colour, wanted, regions) else {
         unreachable()
     };
     take_chain(size, colour, &target, board, moves, played)
@@ -107,9 +110,10 @@ fn take_stone(
     ensures { RowShown size.width size.height (seen size cells colour) point moves.old moves.new result }
 {
     let mut board = cells;
+    let mut regions = Regions::empty();
     let mut played = 0;
     while board[point] == colour.byte() {
-        played = capture_chain(size, colour, &mut board, moves, played);
+        played = capture_chain(size, colour, point, &mut regions, &mut board, moves, played);
     }
     played
 }

@@ -4,6 +4,7 @@
 
 pub mod audit;
 mod capturing;
+pub mod judgement;
 pub mod showing;
 mod target;
 pub mod theorems;

@@ -1,11 +1,12 @@
 //! The chain that is taken next, and the liberty that is played next.
 
-ghost use Rattle.std.specs.Prelude.{◌≡◌, ℕ, ◌<◌, ◌≤◌, true, false, length, Some, None, slice_index};
+ghost use Rattle.std.specs.Prelude.{◌≡◌, ℕ, ◌<◌, ◌≤◌, true, false, not, length, Some, None, slice_index};
 ghost use Rattle.grid.specs.Neighbours.{hand};
 ghost use Rattle.chains.specs.Sized.{count_of, near_of, seen};
 ghost use Rattle.chains.specs.Views.{is_point, stone_byte};
+ghost use Rattle.rooms.specs.Bits.{member, shared_below};
 ghost use Rattle.rooms.specs.Tables.{set_of};
-ghost use Rattle.capture.specs.Target.{WeakOrNone, AimedOrHeld, Touch, OpenTouch, NextOrNone};
+ghost use Rattle.capture.specs.Target.{Weak, WeakOrNone, AimedOrHeld, Touch, OpenTouch, NextOrNone};
 
 use chains::colour::{Colour, is_stone};
 use chains::labels::{MAX_POINTS, NO_POINT};
@@ -26,11 +27,35 @@ pub(crate) struct Target {
     vital: RoomSet,
 }
 
-/// The first point of the first chain of the colour that has fewer than two vital rooms.
+/// Whether a stone of the colour stands at p whose chain has fewer than two vital rooms.
+fn is_weak(
+    size: Size,
+    board: &[u8],
+    colour: Colour,
+    chains: &[u16],
+    regions: &Regions,
+    p: usize,
+) -> bool
+    requires celled { count_of size ≤ length board.now }
+    requires chained { count_of size ≤ length chains.now }
+    requires inside { (p : ℕ) → p < count_of size → slice_index board.now p ≡ stone_byte colour → slice_index chains.now p < 361 }
+    ensures yes { result ≡ true → (p < count_of size) × Weak (count_of size) board.now chains.now colour (set_of regions.now.vital) (slice_index chains.now p) }
+    ensures no { result ≡ false → p < count_of size → slice_index board.now p ≡ stone_byte colour →
+        2 ≤ shared_below 384 (set_of regions.now.vital (slice_index chains.now p)) (set_of regions.now.vital (slice_index chains.now p)) }
+{
+    if p >= size.points() || board[p] != colour.byte() {
+        return false;
+    }
+    let vital = regions.vital(chains[p] as usize);
+    vital.shared(&vital) < ROOMS_TO_LIVE
+}
+
+/// The first point of a chain of the colour that has fewer than two vital rooms: the chain of the wanted stone if it is one, and else the first.
 fn weak_chain(
     size: Size,
     board: &[u8],
     colour: Colour,
+    wanted: usize,
     chains: &[u16],
     regions: &Regions,
 ) -> Option<usize>
@@ -39,19 +64,26 @@ fn weak_chain(
     requires inside { (p : ℕ) → p < count_of size → slice_index board.now p ≡ stone_byte colour → slice_index chains.now p < 361 }
     ensures { WeakOrNone (count_of size) board.now chains.now colour (set_of regions.now.vital) result }
 {
+    if is_weak(size, board, colour, chains, regions, wanted) {
+        return Some(chains[wanted] as usize);
+    }
     for p in 0..size.points() {
-        if board[p] == colour.byte() {
-            let vital = regions.vital(chains[p] as usize);
-            if vital.shared(&vital) < ROOMS_TO_LIVE {
-                return Some(chains[p] as usize);
-            }
+        if is_weak(size, board, colour, chains, regions, p) {
+            return Some(chains[p] as usize);
         }
     }
     None
 }
 
-/// The first chain of the colour that has fewer than two vital rooms, with what is written of the board; none where safe marks hold every stone.
-pub(crate) fn aim(size: Size, board: &[u8], colour: Colour) -> Option<Target>
+/// A chain of the colour that has fewer than two vital rooms, that of the wanted stone if it can be, with what is written of the board;
+/// none where safe marks hold every stone. The regions are lent to be written over.
+pub(crate) fn aim(
+    size: Size,
+    board: &[u8],
+    colour: Colour,
+    wanted: usize,
+    regions: &mut Regions,
+) -> Option<Target>
     requires long { count_of size ≤ length board.now }
     requires good { (p : ℕ) → p < count_of size → is_point (slice_index board.now p) ≡ true }
     ensures { AimedOrHeld (count_of size) (near_of size) (seen size board.now colour) result }
@@ -61,10 +93,10 @@ pub(crate) fn aim(size: Size, board: &[u8], colour: Colour) -> Option<Target>
     };
     let mut chains = [NO_POINT; MAX_POINTS];
     let mut rooms = [NO_POINT; MAX_POINTS];
-    let Ok(regions) = Regions::new(&position, colour, &mut chains, &mut rooms) else {
+    let Ok(_) = regions.write(&position, colour, &mut chains, &mut rooms) else {
         unreachable()
     };
-    let Some(chain) = weak_chain(size, board, colour, &chains, &regions) else {
+    let Some(chain) = weak_chain(size, board, colour, wanted, &chains, regions) else {
         return None;
     };
     Some(Target {
@@ -112,6 +144,14 @@ fn is_liberty(size: Size, board: &[u8], chains: &[u16], chain: usize, p: usize) 
     touches(size, chains, chain, p)
 }
 
+/// Whether the room of p was not vital to the chain.
+fn is_spare(target: &Target, p: usize) -> bool
+    requires { p < 361 }
+    ensures { result ≡ not (member target.now.vital.words (slice_index target.now.rooms p)) }
+{
+    !target.vital.contains(target.rooms[p] as usize)
+}
+
 /// The liberty of the chain to be played next: the first whose room was not vital to the chain, and the last liberty where there is no such.
 pub(crate) fn next_liberty(size: Size, board: &[u8], target: &Target) -> Option<usize>
     requires { count_of size ≤ length board.now }
@@ -120,7 +160,7 @@ pub(crate) fn next_liberty(size: Size, board: &[u8], target: &Target) -> Option<
     let mut last = None;
     for p in 0..size.points() {
         if is_liberty(size, board, &target.chains, target.chain, p) {
-            if !target.vital.contains(target.rooms[p] as usize) {
+            if is_spare(target, p) {
                 return Some(p);
             }
             last = Some(p);

@@ -1,6 +1,13 @@
 //! What is proved of judge and shower together. Each function does nothing: its contract is the theorem.
 
-ghost use Rattle.capture.specs.Statements.{StaysOrRow, MarkOrRow};
+ghost use Rattle.std.specs.Prelude.{◌≡◌, ℕ, true, false, ◌⊎◌};
+ghost use Rattle.grid.specs.Grid.{near};
+ghost use Rattle.chains.specs.Board.{mine, Board};
+ghost use Rattle.chains.specs.Stands.{Stands};
+ghost use Rattle.play.specs.Played.{Stays};
+ghost use Rattle.rooms.specs.Safe.{Marks};
+ghost use Rattle.judge.specs.Promise.{Judges};
+ghost use Rattle.capture.specs.Statements.{RowFor, StaysOrRow, MarkOrRow};
 
 /// Each stone of a board that can stand stays for ever and no row of moves takes it, or it does not and a row takes it.
 pub fn stays_or_row()

@@ -1,16 +1,16 @@
 -- Stones without breath: the computed tests against what they say, the first such stone, and boards that can stand.
-use Rattle.std.proofs.Common.{◌≡◌, ℕ, zero, suc, ◌+◌, ◌<◌, ◌≤◌, Bool, true, false, cond, ◌||◌, eqb, ltb, leb, ◌≢◌, ◌⊎◌, List, get_or, Some, None, Option, sym, refl, ap, ◌∙◌, subst, inl, inr, arith}
+use Rattle.std.proofs.Common.{◌≡◌, ℕ, zero, suc, ◌<◌, ◌≤◌, Bool, true, false, cond, eqb, ltb, ◌≢◌, ◌⊎◌, List, get_or, None, sym, refl, ap, ◌∙◌, subst, inl, inr, arith}
 use Rattle.std.proofs.lemmas.Bool.{both_ways, cases_Bool, cases_eq, cases_lt, cases_order, eqb-true, ne_eqb, ltb-true, ltb-false, le-leb, lt-leb, or_cases, or_left, or_right}
 use Rattle.grid.specs.Graph.{Near, Graph}
 use Rattle.chains.specs.Board.{pick, State, none, mine, yours, Board, Joined, at, on, Breathes}
 use Rattle.chains.specs.Breath.{calm, first_failing, first_breathless, stand_refusal, BreathesAt, BreathlessFrom, FirstBreathless}
 use Rattle.chains.specs.Computed.{is_state, breathing}
 use Rattle.chains.specs.Stands.{Stand}
-use Rattle.chains.specs.Views.{stone_byte, other, state_of, view}
+use Rattle.chains.specs.Views.{other, view}
 use Rattle.chains.specs.declared.colour.Colour.{Colour}
 use Rattle.chains.specs.declared.colour.Colour.TheVariants.{Black, White}
-use Rattle.chains.proofs.States.{is_state_true, state_is, state_is_not, none_mine, none_yours, mine_yours}
-use Rattle.chains.proofs.Chain.{joined_first, joined_last, joined_sym, breathing_breathes, breathes_breathing, breathes_along}
+use Rattle.chains.proofs.States.{is_state_true, state_is, none_mine, none_yours}
+use Rattle.chains.proofs.Chain.{joined_first, joined_last, breathing_breathes, breathes_breathing, breathes_along}
 
 -- a stone on a calm point breathes
 pub calm_breathes : {n : ℕ} {near : Near} → Graph n near → (b : Board) (c : State) (p : ℕ) → c ≢ none → b p ≡ c → calm n near b p ≡ true → Breathes near b c p

@@ -1,12 +1,12 @@
 -- Labels by first points: what holds while the points are gone through in order, and that there is one labelling.
-use Rattle.std.proofs.Common.{◌≡◌, ℕ, ◌+◌, ◌-◌, ◌<◌, ◌≤◌, Bool, true, false, ◌&&◌, eqb, ltb, ◌≢◌, ◌⊎◌, List, length, get_or, drop, sym, refl, ap, ◌∙◌, subst, inl, inr, le_antisymm, arith}
+use Rattle.std.proofs.Common.{◌≡◌, ℕ, ◌+◌, ◌-◌, ◌<◌, ◌≤◌, Bool, true, eqb, ltb, ◌≢◌, List, length, get_or, drop, sym, refl, ap, ◌∙◌, subst, inl, inr, le_antisymm, arith}
 use Rattle.std.proofs.lemmas.Bool.{cases_eq, cases_lt, eqb-true, ltb-true, and_parts}
 use Rattle.std.proofs.lemmas.List.{get_or-drop, ext_get_or, length-drop}
 use Rattle.grid.specs.Graph.{Near, Graph}
 use Rattle.chains.specs.Linked.{Linked, here, step}
 use Rattle.chains.specs.Labels.{of_class, First, Labelled}
 use Rattle.chains.specs.Walked.{KeptOrNamed, kept, named, Walked}
-use Rattle.chains.proofs.Reach.{linked_first, linked_last, linked_trans, linked_sym}
+use Rattle.chains.proofs.Reach.{linked_last, linked_trans, linked_sym}
 use Rattle.chains.proofs.Walk.{label_stays, own_class}
 
 -- a point that is linked by the test of a class has that class
@@ -95,11 +95,11 @@ labelling_step {n} {near} g {classes} {left_out} {start} {labels} {new} {after} 
   where
     out : (q : ℕ) → q < n → get_or classes q 0 ≡ left_out → KeptOrNamed n near classes p p labels new q → get_or new q 0 ≡ 65535
     out q l e (kept f) = f ∙ w.out q l e
-    out q l e (named was now-is k) = absurd (in_class (sym (linked_class n classes (get_or classes p 0) k) ∙ e))
+    out q l e (named was now_is k) = absurd (in_class (sym (linked_class n classes (get_or classes p 0) k) ∙ e))
 
     past : (q : ℕ) → n ≤ q → KeptOrNamed n near classes p p labels new q → get_or new q 0 ≡ get_or start q 0
     past q l (kept f) = f ∙ w.past q l
-    past q l (named was now-is k) = absurd (omega (arith, linked_inside n classes (get_or classes p 0) k))
+    past q l (named was now_is k) = absurd (omega (arith, linked_inside n classes (get_or classes p 0) k))
 
     -- a smaller point that is linked to p would have a label, and so would p
     least : (x : ℕ) → Linked near (of_class n classes (get_or classes p 0)) p x → p ≤ x
@@ -111,8 +111,8 @@ labelling_step {n} {near} g {classes} {left_out} {start} {labels} {new} {after} 
 
     first : (q : ℕ) → q < n → get_or new q 0 ≢ 65535 → KeptOrNamed n near classes p p labels new q → First near (of_class n classes (get_or classes q 0)) q (get_or new q 0)
     first q l e (kept f) = subst (λ (i : ℕ). First near (of_class n classes (get_or classes q 0)) q i) (sym f) (w.first q l (λ h. e (f ∙ h)))
-    first q l e (named was now-is k) =
-        subst (λ (i : ℕ). First near (of_class n classes (get_or classes q 0)) q i) (sym now-is)
+    first q l e (named was now_is k) =
+        subst (λ (i : ℕ). First near (of_class n classes (get_or classes q 0)) q i) (sym now_is)
         (subst (λ (c : ℕ). First near (of_class n classes c) q p) (sym (linked_class n classes (get_or classes p 0) k))
         (first_along g k (record { linked = here (own_class n classes (get_or classes p 0) p inside refl); least = least })))
 

@@ -1,9 +1,9 @@
 -- Chains that breathe: what holds while their labels are marked.
-use Rattle.std.proofs.Common.{◌≡◌, ℕ, ◌+◌, ◌<◌, ◌≤◌, Bool, true, false, ◌&&◌, eqb, ltb, ◌≢◌, ◌⊎◌, List, length, get_or, set, replicate, Some, None, Option, sym, refl, ap, ◌∙◌, subst, inl, inr, arith}
+use Rattle.std.proofs.Common.{◌≡◌, ℕ, ◌+◌, ◌<◌, ◌≤◌, Bool, true, false, ◌&&◌, ltb, ◌≢◌, ◌⊎◌, List, length, get_or, set, replicate, Some, None, Option, sym, refl, ap, ◌∙◌, subst, inl, inr, arith}
 use Rattle.std.proofs.lemmas.Bool.{both_ways, cases_eq, cases_lt, lt-ltb, le-ltb, ltb-true, and_parts, and_from}
 use Rattle.std.proofs.lemmas.List.{get_or-set_same, get_or-set_other, length-set, length-replicate, get_or-replicate, get_or_past}
 use Rattle.grid.specs.Graph.{Near, Graph}
-use Rattle.chains.specs.Board.{State, none, Board, Joined, Breathes}
+use Rattle.chains.specs.Board.{State, none, Breathes}
 use Rattle.chains.specs.Labels.{Labelled}
 use Rattle.chains.specs.Views.{is_stone, view}
 use Rattle.chains.specs.Marks.{Beside, MarkedBeside, MarkedBelow, stone_mark, BreathMarks}

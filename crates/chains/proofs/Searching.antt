@@ -1,11 +1,10 @@
 -- Looking for the first stone without breath on the square board.
-use Rattle.std.proofs.Common.{◌≡◌, ℕ, zero, suc, ◌<◌, ◌≤◌, Bool, true, false, ◌≢◌, List, get_or, sym, refl, ◌∙◌, arith}
+use Rattle.std.proofs.Common.{◌≡◌, ℕ, zero, suc, ◌<◌, ◌≤◌, Bool, true, false, List, get_or, sym, refl, ◌∙◌, arith}
 use Rattle.std.proofs.lemmas.Bool.{both_ways}
-use Rattle.grid.specs.Graph.{Near, Graph}
+use Rattle.grid.specs.Graph.{Near}
 use Rattle.grid.specs.Grid.{points, near}
 use Rattle.grid.proofs.Square.{graph}
-use Rattle.chains.specs.Board.{State, none, Board}
-use Rattle.chains.specs.Breath.{first_breathless, FromStart, BreathesAt, BreathlessFrom, FirstBreathless}
+use Rattle.chains.specs.Breath.{first_breathless, FromStart, BreathlessFrom, FirstBreathless}
 use Rattle.chains.specs.Marks.{BreathMarks}
 use Rattle.chains.specs.Stands.{Stands}
 use Rattle.chains.specs.Views.{is_stone, view}

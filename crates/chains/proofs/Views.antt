@@ -1,18 +1,16 @@
 -- The bytes of a board as each side sees them: which byte says which state, and chains as points of one byte.
-use Rattle.std.proofs.Common.{◌≡◌, ℕ, ◌+◌, ◌<◌, ◌≤◌, Bool, true, false, ◌&&◌, ◌||◌, eqb, ltb, ◌≢◌, ◌⊎◌, List, get_or, take, sym, refl, ap, ◌∙◌, subst, inl, inr, le_antisymm, arith, get_or-take}
+use Rattle.std.proofs.Common.{◌≡◌, ℕ, ◌<◌, Bool, true, false, eqb, ltb, ◌≢◌, List, get_or, take, sym, refl, ap, ◌∙◌, subst, inl, inr, arith, get_or-take}
 use mathlib.Core.Path.{fun_ext}
-use Rattle.std.proofs.lemmas.Bool.{both_ways, cases_Bool, cases_eq, eqb-true, eq-eqb, ne_eqb, ltb-true, lt-ltb, or_cases, or_parts, or_left, or_right, false≢true}
-use Rattle.std.proofs.lemmas.Bool.Decides.{nat_tests}
+use Rattle.std.proofs.lemmas.Bool.{both_ways, cases_Bool, eqb-true, eq-eqb, ne_eqb, ltb-true, lt-ltb, or_cases, or_parts}
 use Rattle.grid.specs.Graph.{Near, Graph}
 use Rattle.chains.specs.Board.{pick, State, none, mine, yours, Board, Joined}
-use Rattle.chains.specs.Computed.{is_state}
 use Rattle.chains.specs.Linked.{Linked}
 use Rattle.chains.specs.Labels.{of_class, First, Labelled, ChainLabels}
 use Rattle.chains.specs.Views.{stone_byte, other, is_point, is_stone, state_of, view}
 use Rattle.chains.specs.declared.colour.Colour.{Colour}
 use Rattle.chains.specs.declared.colour.Colour.TheVariants.{Black, White}
-use Rattle.chains.proofs.States.{Kind, is_none, is_mine, is_yours, kind, none_mine, none_yours, mine_yours, state_is}
-use Rattle.chains.proofs.Reach.{linked_map, linked_sym, linked_trans}
+use Rattle.chains.proofs.States.{none_mine, none_yours, mine_yours, state_is}
+use Rattle.chains.proofs.Reach.{linked_map}
 use Rattle.chains.proofs.Chain.{joined_linked, linked_joined, joined_first, joined_last, joined_trans, joined_sym}
 use Rattle.chains.proofs.Walk.{own_class}
 use Rattle.chains.proofs.Labelling.{linked_class, linked_inside, first_along, first_unique}

@@ -1,5 +1,5 @@
 -- Stones without breath, and the first of them. Assumes nothing: these are definitions.
-use Rattle.std.specs.Prelude.{◌≡◌, ℕ, zero, suc, ◌<◌, ◌≤◌, Bool, true, cond, ◌||◌, ◌≢◌, ◌⊎◌, Some, None, Option, nat_le, nat_lt}
+use Rattle.std.specs.Prelude.{◌≡◌, ℕ, zero, suc, ◌<◌, ◌≤◌, Bool, true, cond, ◌||◌, ◌≢◌, None, Option, nat_le, nat_lt}
 use Rattle.grid.specs.Graph.{Near}
 use Rattle.grid.specs.Refusals.{unless}
 use Rattle.chains.specs.Board.{State, none, Board, Joined, Breathes}
@@ -35,7 +35,7 @@ pub record BreathlessFrom (n : ℕ) (near : Near) (b : Board) (from r : ℕ) : T
   pub stone : r < n → b r ≢ none
   pub breathless : (c : State) → r < n → c ≢ none → b r ≡ c → Breathes near b c r → ⊥
 
--- what holds if a search began at the first point
+-- what holds if the points are looked at from the first on
 abbrev pub FromStart : ℕ → Type 0 → Type 0
 FromStart zero T = T
 FromStart (suc from) T = Unit {0}

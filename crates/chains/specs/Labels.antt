@@ -1,7 +1,7 @@
 -- Chains and rooms by their first points. Assumes nothing: these are definitions.
 use Rattle.std.specs.Prelude.{◌≡◌, ℕ, ◌<◌, ◌≤◌, Bool, cond, ◌&&◌, ◌≢◌, List, Some, None, Option, ◌==◌, nat_lt, slice_index}
 use Rattle.grid.specs.Graph.{Near}
-use Rattle.chains.specs.Board.{State, none, mine, yours, Board, Joined}
+use Rattle.chains.specs.Board.{State, none, Board, Joined}
 use Rattle.chains.specs.Linked.{Linked}
 
 -- the points below n whose class is c

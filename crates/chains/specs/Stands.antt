@@ -2,7 +2,7 @@
 use Rattle.std.specs.Prelude.{◌≡◌, ℕ, ◌<◌, ◌≢◌}
 use Rattle.grid.specs.Graph.{Near}
 use Rattle.grid.specs.Grid.{near, points}
-use Rattle.chains.specs.Board.{State, none, mine, yours, Board, Breathes}
+use Rattle.chains.specs.Board.{none, mine, yours, Board, Breathes}
 
 -- a board that can stand: off the grid there is nothing, and every stone breathes
 pub record Stands (w h : ℕ) (b : Board) : Type 0 where

@@ -1,5 +1,5 @@
 -- What a walk over the points of one class writes. Assumes nothing: these are definitions.
-use Rattle.std.specs.Prelude.{◌≡◌, ℕ, Bool, true, ◌≢◌, ◌⊎◌, List, slice_index, slice_index_or}
+use Rattle.std.specs.Prelude.{◌≡◌, ℕ, true, ◌≢◌, List, slice_index, slice_index_or}
 use Rattle.grid.specs.Graph.{Near}
 use Rattle.chains.specs.Linked.{Linked}
 use Rattle.chains.specs.Labels.{of_class}

@@ -47,6 +47,7 @@ impl Position {
         Ok(Position::of_points(size, bytes))
     }
 
+    /// The position of bytes that are long enough and good.
     fn of_points(size: Size, bytes: &[u8]) -> Position
         requires long { count_of size ≤ length bytes.now }
         requires good { (p : ℕ) → p < count_of size → is_point (slice_index bytes.now p) ≡ true }
@@ -104,6 +105,7 @@ impl Position {
         Ok(())
     }
 
+    /// Chains are the classes of the bytes, but for that of the empty points.
     fn label_chains(&self, labels: &mut [u16])
         requires { count_of self.now.size ≤ length labels.old }
         ensures chained { (colour : Colour) → ChainLabels (count_of self.now.size) (near_of self.now.size)
@@ -160,6 +162,7 @@ pub fn good_points(bytes: &[u8]) -> usize
     good_all(bytes)
 }
 
+/// All bytes are their own first ones.
 fn good_all(bytes: &[u8]) -> usize
     ensures value { result ≡ prefix_len is_point bytes.now }
     ensures bound { result ≤ length bytes.now }

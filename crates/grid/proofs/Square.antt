@@ -1,10 +1,9 @@
 -- The square board: its neighbours in arithmetic, that it is a board in the general sense, and that its neighbours are handed out exactly.
-use Rattle.std.proofs.Common.{◌≡◌, ℕ, zero, suc, ◌+◌, ◌-◌, ◌*◌, ◌/◌, ◌%◌, ◌<◌, ◌≤◌, Bool, true, false, cond, eqb, ltb, leb, ◌≢◌, ◌⊎◌, Some, None, Option, sym, refl, ap, ◌∙◌, subst, inl, inr, ⊎_elim, suc-mul, mul_comm, add-mul, one-mul, div-add-mod', zero-mul, arith}
-use Rattle.std.proofs.lemmas.Bool.{lt-ltb, ltb-true, cases_eq}
+use Rattle.std.proofs.Common.{◌≡◌, ℕ, zero, suc, ◌+◌, ◌-◌, ◌*◌, ◌/◌, ◌%◌, ◌<◌, ◌≤◌, true, ◌≢◌, ◌⊎◌, Some, Option, sym, refl, ap, ◌∙◌, inl, inr, ⊎_elim, suc-mul, mul_comm, add-mul, one-mul, div-add-mod', zero-mul, arith}
 use Rattle.std.proofs.lemmas.Nat.{div-mul-add, mod-mul-add, div_below, mod_below, mul-add-lt}
 use Rattle.std.proofs.lemmas.Bool.Decides.{nat_tests}
 use Rattle.grid.specs.Graph.{Graph}
-use Rattle.grid.specs.Grid.{points, beside, near}
+use Rattle.grid.specs.Grid.{points, near}
 use Rattle.grid.specs.Neighbours.{HandsOut, slots, hand}
 
 -- what `near` tests, as facts

@@ -1,5 +1,5 @@
 -- How a board hands out a point's neighbours by number. Assumes nothing: these are definitions.
-use Rattle.std.specs.Prelude.{◌≡◌, ℕ, ◌+◌, ◌-◌, ◌%◌, ◌<◌, ◌≤◌, Bool, true, cond, Some, None, Option, ◌==◌, nat_le, nat_lt}
+use Rattle.std.specs.Prelude.{◌≡◌, ℕ, ◌+◌, ◌-◌, ◌%◌, ◌<◌, ◌≤◌, true, cond, Some, None, Option, ◌==◌, nat_le, nat_lt}
 use Rattle.grid.specs.Graph.{Near}
 use Rattle.grid.specs.Grid.{points}
 

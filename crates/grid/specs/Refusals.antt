@@ -1,10 +1,7 @@
 -- The list of refusals: each case's number and the place that it names. Assumes nothing: these are definitions.
-use Rattle.std.specs.Prelude.{ℕ, Bool, cond, Some, None, Option}
-use Rattle.grid.specs.declared.refusal.Side.{Side}
+use Rattle.std.specs.Prelude.{ℕ, Bool, cond, Some, Option}
 use Rattle.grid.specs.declared.refusal.Side.TheVariants.{Width, Height}
-use Rattle.grid.specs.declared.refusal.Lent.{Lent}
 use Rattle.grid.specs.declared.refusal.Lent.TheVariants.{Points, Chains, Rooms, Moves}
-use Rattle.grid.specs.declared.refusal.Untaken.{Untaken}
 use Rattle.grid.specs.declared.refusal.Untaken.TheVariants.{NoStone, Marked}
 use Rattle.grid.specs.declared.refusal.Refusal.{Refusal}
 use Rattle.grid.specs.declared.refusal.Refusal.TheVariants.{BadSide, Count, BadByte, NoLiberty, OffBoard, Occupied, Suicide, Ko, AfterEnd, BadMarks, NotShown, TooShort}

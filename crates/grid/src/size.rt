@@ -99,6 +99,7 @@ impl Size {
         self.step(p, k)
     }
 
+    /// Four numbers for a point of the board, none for one that is not there.
     fn slots(self, p: usize) -> usize
         ensures value { result ≡ slots self.width self.height p }
         ensures complete { (q : ℕ) → near self.width self.height p q ≡ true →
@@ -107,6 +108,7 @@ impl Size {
         if p < self.points() { SLOTS } else { 0 }
     }
 
+    /// What `beside` gives, with its facts.
     fn step(self, p: usize, k: usize) -> Option<usize>
         ensures value { result ≡ hand self.width self.height p k }
         ensures sound { (q : ℕ) → result ≡ Some q → (near self.width self.height p q ≡ true) × (q < points self.width self.height) }

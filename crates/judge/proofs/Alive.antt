@@ -1,13 +1,12 @@
 -- Each stone of mine is held by safe marks or can be taken; so what stays is marked by some safe marks.
 use Rattle.std.proofs.Common.{◌≡◌, ℕ, zero, suc, ◌<◌, true, ◌⊎◌, List, ◌++◌, inl, inr, arith}
 use Rattle.grid.specs.Graph.{Near, Graph}
-use Rattle.grid.specs.Grid.{near, points}
+use Rattle.grid.specs.Grid.{near}
 use Rattle.chains.specs.Board.{none, mine, Board}
-use Rattle.chains.specs.Stands.{Stand, Stands}
+use Rattle.chains.specs.Stands.{Stand}
 use Rattle.chains.specs.Computed.{count}
 use Rattle.chains.proofs.States.{none_mine, is_state_true, state_is, state_is_not}
 use Rattle.chains.proofs.Below.{count_less}
-use Rattle.chains.proofs.Square.{stands_stand}
 use Rattle.play.specs.Played.{Stays, Plays, Inside}
 use Rattle.play.proofs.Rows.{plays_append, plays_comes, plays_stand, plays_bound, inside_append}
 use Rattle.rooms.specs.Safe.{Marks, Safe}

@@ -3,7 +3,7 @@ use Rattle.std.proofs.Common.{◌≡◌, ℕ, true, ◌≢◌, ◌⊎◌, sym, r
 use Rattle.std.proofs.lemmas.Bool.{cases_eq}
 use Rattle.grid.specs.Graph.{Near, Graph}
 use Rattle.chains.specs.Board.{none, mine, yours, Board, Joined, at, on}
-use Rattle.chains.proofs.States.{Kind, is_none, is_mine, is_yours, kind, none_mine, none_yours, mine_yours}
+use Rattle.chains.proofs.States.{is_none, is_mine, is_yours, kind, none_mine, none_yours, mine_yours}
 use Rattle.chains.proofs.Chain.{joined_last, joined_map, breathes_or_not, breathes_along}
 use Rattle.play.specs.Played.{with_stone, Played}
 use Rattle.play.proofs.Moves.{the_stone, elsewhere, put, put_was, Made, played_made, made_mine}

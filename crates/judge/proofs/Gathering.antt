@@ -36,13 +36,13 @@ gathered_start {kept = kept} nothing =
 pub gathered_chain : {cells : List ℕ} {own : ℕ} {chains rooms : List ℕ} {k : ℕ} {kept open_rooms kept_too open_too : RoomSet} (put : RoomSet) → Gathered cells own chains rooms k kept.words open_rooms.words →
     get_or cells k 0 ≡ own → ((c : ℕ) → member put.words c ≡ (member kept.words c || eqb c (get_or chains k 0))) → kept_too ≡ put → open_too ≡ open_rooms →
     Gathered cells own chains rooms (k + 1) kept_too.words open_too.words
-gathered_chain {cells} {own} {chains} {rooms} {k} {kept} {open_rooms} {kept_too} {open_too} put g is-own put_is kept-is open_is =
-    subst (λ (s : RoomSet). Gathered cells own chains rooms (k + 1) s.words open_too.words) (sym kept-is)
+gathered_chain {cells} {own} {chains} {rooms} {k} {kept} {open_rooms} {kept_too} {open_too} put g is_own put_is kept_is open_is =
+    subst (λ (s : RoomSet). Gathered cells own chains rooms (k + 1) s.words open_too.words) (sym kept_is)
     (subst (λ (s : RoomSet). Gathered cells own chains rooms (k + 1) put.words s.words) (sym open_is)
     (record {
       sound = λ c h. elim (or_cases (member kept.words c) (eqb c (get_or chains k 0)) (sym (put_is c) ∙ h)) [
         | inl was ↦ (let (p, l, e, f) = g.sound c was in (p, omega arith, e, f))
-        | inr same ↦ (k, omega arith, is-own, sym (eqb-true c (get_or chains k 0) same))
+        | inr same ↦ (k, omega arith, is_own, sym (eqb-true c (get_or chains k 0) same))
       ];
       chains_in = λ p l e. elim (cases_eq p k) [
         | inl same ↦
@@ -51,7 +51,7 @@ gathered_chain {cells} {own} {chains} {rooms} {k} {kept} {open_rooms} {kept_too}
         | inr other ↦ put_is (get_or chains p 0) ∙ or_left (member kept.words (get_or chains p 0)) (eqb (get_or chains p 0) (get_or chains k 0)) (g.chains_in p (omega arith) e)
       ];
       rooms_in = λ p l e. elim (cases_eq p k) [
-        | inl same ↦ absurd (e (subst (λ (i : ℕ). get_or cells i 0 ≡ own) (sym same) is-own))
+        | inl same ↦ absurd (e (subst (λ (i : ℕ). get_or cells i 0 ≡ own) (sym same) is_own))
         | inr other ↦ g.rooms_in p (omega arith) e
       ];
     }))
@@ -60,8 +60,8 @@ gathered_chain {cells} {own} {chains} {rooms} {k} {kept} {open_rooms} {kept_too}
 pub gathered_room : {cells : List ℕ} {own : ℕ} {chains rooms : List ℕ} {k : ℕ} {kept open_rooms kept_too open_too : RoomSet} (put : RoomSet) → Gathered cells own chains rooms k kept.words open_rooms.words →
     (get_or cells k 0 ≡ own → ⊥) → ((y : ℕ) → member put.words y ≡ (member open_rooms.words y || eqb y (get_or rooms k 0))) → kept_too ≡ kept → open_too ≡ put →
     Gathered cells own chains rooms (k + 1) kept_too.words open_too.words
-gathered_room {cells} {own} {chains} {rooms} {k} {kept} {open_rooms} {kept_too} {open_too} put g not_own put_is kept-is open_is =
-    subst (λ (s : RoomSet). Gathered cells own chains rooms (k + 1) s.words open_too.words) (sym kept-is)
+gathered_room {cells} {own} {chains} {rooms} {k} {kept} {open_rooms} {kept_too} {open_too} put g not_own put_is kept_is open_is =
+    subst (λ (s : RoomSet). Gathered cells own chains rooms (k + 1) s.words open_too.words) (sym kept_is)
     (subst (λ (s : RoomSet). Gathered cells own chains rooms (k + 1) kept.words s.words) (sym open_is)
     (record {
       sound = λ c h. let (p, l, e, f) = g.sound c h in (p, omega arith, e, f);

@@ -171,14 +171,14 @@ pub round_judging : {n : ℕ} {near : Near} → Graph n near → {b : Board} {ch
     RoomLabels n near b rooms → RoomSets n near b chains rooms vital walls → n ≤ 384 →
     Round vital walls kept open_rooms n struck later_open → ((c : ℕ) → member later_kept c ≡ (member kept c && not (member struck c))) →
     Judging n near b chains rooms kept open_rooms → Judging n near b chains rooms later_kept later_open
-round_judging {n} {near} g {b} {chains} {rooms} {kept} {open_rooms} {struck} {later_open} {vital} {walls} later_kept room_labels sets small r kept-is was =
+round_judging {n} {near} g {b} {chains} {rooms} {kept} {open_rooms} {struck} {later_open} {vital} {walls} later_kept room_labels sets small r kept_is was =
     record {
       going = record { sound = rooms_struck_sound (chains_struck_sound g was.going.sound struck_chains) struck_rooms; walls = walls_kept };
       first = λ c h. was.first c (later_parts c h).0;
     }
   where
     later_parts : (c : ℕ) → member later_kept c ≡ true → (member kept c ≡ true) × (not (member struck c) ≡ true)
-    later_parts c h = and_parts (member kept c) (not (member struck c)) (sym (kept-is c) ∙ h)
+    later_parts c h = and_parts (member kept c) (not (member struck c)) (sym (kept_is c) ∙ h)
 
     kept_parts : (p : ℕ) → kept_by b chains kept p ≡ true → (b p ≡ mine) × (member kept (get_or chains p 0) ≡ true)
     kept_parts p h = let parts = and_parts (is_state mine (b p)) (member kept (get_or chains p 0)) h in (is_state_true mine (b p) parts.0, parts.1)
@@ -188,7 +188,7 @@ round_judging {n} {near} g {b} {chains} {rooms} {kept} {open_rooms} {struck} {la
       | inl gone ↦ inr gone
       | inr free ↦
           inl (and_from (is_state mine (b p)) (member later_kept (get_or chains p 0)) (state_is mine (b p) (kept_parts p h).0)
-          (kept-is (get_or chains p 0) ∙ and_from (member kept (get_or chains p 0)) (not (member struck (get_or chains p 0))) (kept_parts p h).1 (not_from_false (member struck (get_or chains p 0)) free)))
+          (kept_is (get_or chains p 0) ∙ and_from (member kept (get_or chains p 0)) (not (member struck (get_or chains p 0))) (kept_parts p h).1 (not_from_false (member struck (get_or chains p 0)) free)))
     ]
 
     few : (p : ℕ) → b p ≡ mine → member struck (get_or chains p 0) ≡ true → FewOpen n near b (open_by rooms open_rooms) p
@@ -205,7 +205,7 @@ round_judging {n} {near} g {b} {chains} {rooms} {kept} {open_rooms} {struck} {la
     not_kept c gone =
         let (m, e) = was.first c (r.was_kept c gone) in
         and_right (is_state mine (b c)) (member later_kept (get_or chains c 0))
-        (subst (λ (i : ℕ). member later_kept i ≡ false) (sym e) (kept-is c ∙ and_right (member kept c) (not (member struck c)) (not_from_true (member struck c) gone)))
+        (subst (λ (i : ℕ). member later_kept i ≡ false) (sym e) (kept_is c ∙ and_right (member kept c) (not (member struck c)) (not_from_true (member struck c) gone)))
 
     -- a point whose number is in a set of rooms has no stone of mine
     clear : (c y : ℕ) → member kept c ≡ true → y < n → member (walls c) (get_or rooms y 0) ≡ true → not_mine b y ≡ true
@@ -237,8 +237,8 @@ pub rounds_judging : {n : ℕ} {near : Near} → Graph n near → {b : Board} {c
     RoomLabels n near b rooms → RoomSets n near b chains rooms vital walls → n ≤ 384 →
     Rounds n vital walls kept open_rooms later_kept later_open → Judging n near b chains rooms kept open_rooms → Judging n near b chains rooms later_kept later_open
 rounds_judging g room_labels sets small start was = was
-rounds_judging g room_labels sets small (more struck later_kept later_open before r kept-is) was =
-    round_judging g later_kept room_labels sets small r kept-is (rounds_judging g room_labels sets small before was)
+rounds_judging g room_labels sets small (more struck later_kept later_open before r kept_is) was =
+    round_judging g later_kept room_labels sets small r kept_is (rounds_judging g room_labels sets small before was)
 
 -- when rounds end because nothing was struck, the stones of the chains that are kept are the judgement
 pub judges_rounds : {n : ℕ} {near : Near} → Graph n near → {b : Board} {chains rooms kept open_rooms : List ℕ} {vital walls : ℕ → List ℕ} {later_kept later_open : List ℕ} →

@@ -1,6 +1,6 @@
 -- The same promises for a board of any shape: n points and which of them are neighbours. The square board's are cases of these.
 -- Each statement is a type whose proof is owed. Assumes nothing.
-use Rattle.std.specs.Prelude.{◌≡◌, ℕ, ◌≤◌, Bool, true, ◌⊎◌, List, length}
+use Rattle.std.specs.Prelude.{◌≡◌, ℕ, ◌≤◌, true, ◌⊎◌, List, length}
 use Rattle.grid.specs.Graph.{Near, Graph}
 use Rattle.chains.specs.Board.{none, mine, Board}
 use Rattle.chains.specs.Stands.{Stand}

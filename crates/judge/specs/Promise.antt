@@ -1,11 +1,11 @@
 -- What is promised of judgements on the square board. Each is a statement, a type whose proof is owed. Assumes nothing.
-use Rattle.std.specs.Prelude.{◌≡◌, ℕ, ◌*◌, ◌<◌, Bool, true, false, ◌≢◌, ◌⊎◌, List, [], ◌∷◌}
+use Rattle.std.specs.Prelude.{◌≡◌, ℕ, ◌<◌, Bool, true, false, List}
 use Rattle.grid.specs.Graph.{Near}
 use Rattle.grid.specs.Grid.{near, points}
-use Rattle.chains.specs.Board.{State, none, mine, yours, Board, Joined, Breathes}
+use Rattle.chains.specs.Board.{none, mine, Board}
 use Rattle.chains.specs.Stands.{Stands}
 use Rattle.play.specs.Played.{Played, Comes, Stays, Plays}
-use Rattle.rooms.specs.Safe.{Marks, Room, Vital, Safe}
+use Rattle.rooms.specs.Safe.{Marks, Safe}
 
 -- THE MAIN PROMISE: the judge marks exactly the stones that can't be taken though their side passes for ever
 unfoldable pub Judges : ℕ → ℕ → Board → Marks → Type 0

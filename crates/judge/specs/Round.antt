@@ -18,7 +18,7 @@ pub record Round (vital walls : ℕ → List ℕ) (kept open_rooms : List ℕ) (
   pub no_wall : (c y : ℕ) → member struck c ≡ true → member later_open y ≡ true → member (walls c) y ≡ false
   pub rooms : (y : ℕ) → member open_rooms y ≡ true → (member later_open y ≡ true) ⊎ ((c : ℕ) × (member struck c ≡ true) × (member (walls c) y ≡ true))
 
--- rounds one after another over the chains below n, from the sets kept and open-rooms on
+-- rounds one after another over the chains below n, from the sets kept and open_rooms on
 pub data Rounds (n : ℕ) (vital walls : ℕ → List ℕ) (kept open_rooms : List ℕ) : List ℕ → List ℕ → Type 0 where
   start : Rounds n vital walls kept open_rooms kept open_rooms
   more : {k o : List ℕ} (struck later_kept later_open : List ℕ) → Rounds n vital walls kept open_rooms k o → Round vital walls k o n struck later_open →

@@ -72,7 +72,8 @@ pub fn judge(
         return Err(Refusal::TooShort(Lent::Rooms));
     }
     position.stands()?;
-    let regions = Regions::new(&position, colour, chains, rooms)?;
+    let mut regions = Regions::empty();
+    regions.write(&position, colour, chains, rooms)?;
     let marked = settle(size, &position.cells(), colour, &regions, chains, rooms);
     Ok(Marks { marked })
 }

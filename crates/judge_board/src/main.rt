@@ -2,21 +2,21 @@
 
 #![tactic(auto)]
 
-use anyhow::anyhow;
 use chains::colour::Colour;
 use notation::judging::judge_board;
 use notation::lines::refusal_line;
 use notation::point_lines::marks_line;
 use std::io::Read;
+use std::process::ExitCode;
 
 /// How many points this program lends: a larger board is refused.
 const LENT_POINTS: usize = 81;
 
-fn main(rt: HostRuntime) -> anyhow::Result<()> {
-    match answer(&rt) {
-        Ok(true) => Ok(()),
-        Ok(false) => Err(anyhow!("refused")),
-        Err(error) => Err(error),
+fn main(rt: HostRuntime) -> anyhow::Result<ExitCode> {
+    if answer(&rt)? {
+        Ok(ExitCode::SUCCESS)
+    } else {
+        Ok(ExitCode::FAILURE)
     }
 }
 

@@ -3,7 +3,6 @@
 
 #![tactic(auto)]
 
-use anyhow::anyhow;
 use chains::colour::Colour;
 use chains::labels::MAX_POINTS;
 use grid::refusal::Refusal;
@@ -11,12 +10,13 @@ use notation::board::board_length;
 use notation::judging::{judge_board, marked_stones};
 use notation::lines::{counts_line, refusal_line};
 use std::io::Read;
+use std::process::ExitCode;
 
-fn main(rt: HostRuntime) -> anyhow::Result<()> {
-    match answer(&rt) {
-        Ok(true) => Ok(()),
-        Ok(false) => Err(anyhow!("refused")),
-        Err(error) => Err(error),
+fn main(rt: HostRuntime) -> anyhow::Result<ExitCode> {
+    if answer(&rt)? {
+        Ok(ExitCode::SUCCESS)
+    } else {
+        Ok(ExitCode::FAILURE)
     }
 }
 

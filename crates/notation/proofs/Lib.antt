@@ -1,5 +1,7 @@
+mod Calls
 mod Calm
 mod Carried
+mod Made
 mod Points
 mod Records
 mod RoundTrip

@@ -1,13 +1,15 @@
 -- A board as bytes: its width, its height, then a byte for each point in reading order. Assumes nothing: these are definitions.
-use Rattle.std.specs.Prelude.{◌≡◌, ℕ, ◌+◌, ◌-◌, min, Bool, cond, ◌&&◌, List, ◌++◌, length, drop, Some, None, Option, ◌==◌, nat_le, slice_index}
+use Rattle.std.specs.Prelude.{◌≡◌, ℕ, ◌+◌, ◌-◌, ◌≤◌, min, cond, ◌&&◌, List, ◌++◌, length, take, drop, None, Option, ◌==◌, nat_le, slice_index}
 use Rattle.std.specs.List.{prefix_len}
 use Rattle.grid.specs.Grid.{points, near}
 use Rattle.grid.specs.Refusals.{unless}
 use Rattle.grid.specs.Sizes.{side_fits}
 use Rattle.grid.specs.declared.size.Size.{Size}
 use Rattle.chains.specs.Breath.{first_breathless}
+use Rattle.chains.specs.Sized.{count_of}
 use Rattle.chains.specs.Views.{is_point, view}
 use Rattle.chains.specs.declared.colour.Colour.TheVariants.{Black}
+use Rattle.chains.specs.declared.position.Position.{Position}
 
 -- a size byte that is missing counts as 0, which is no size
 abbrev pub width_of : List ℕ → ℕ
@@ -58,3 +60,23 @@ pub record BoardRead (bytes before : List ℕ) (size : Size) (after : List ℕ) 
   pub width : size.width ≡ width_of bytes
   pub height : size.height ≡ height_of bytes
   pub holds : after ≡ cells_of bytes ++ drop (size_points bytes) before
+
+-- the lines of the list on the points of a board, of which there are as many as it asks for, before the lines below them
+abbrev pub cells_lines : ℕ → ℕ → List ℕ → Option (ℕ × ℕ) → Option (ℕ × ℕ)
+cells_lines w h cells rest =
+    unless (nat_le (points w h) (prefix_len is_point cells)) (3, 2 + prefix_len is_point cells)
+    (unless (nat_le (points w h) (calm_front w h cells)) (4, calm_front w h cells)
+    rest)
+
+-- the lines on the points, and before them the one on their count
+abbrev pub points_lines : List ℕ → Option (ℕ × ℕ) → Option (ℕ × ℕ)
+points_lines bytes rest =
+    unless (length bytes - 2 == size_points bytes) (2, length bytes - 2)
+    (cells_lines (width_of bytes) (height_of bytes) (cells_of bytes) rest)
+
+-- the position was made of the points of a board of that size
+pub record MadeOf (size : Size) (cells : List ℕ) (position : Position) : Type 0 where
+  pub all : length cells ≡ count_of size
+  pub good : count_of size ≤ prefix_len is_point cells
+  pub sized : position.size ≡ size
+  pub same : take (count_of size) position.cells ≡ cells

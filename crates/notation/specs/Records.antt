@@ -1,6 +1,6 @@
 -- A record as bytes: a board, then two bytes for each move. Assumes nothing: these are definitions.
 use Rattle.std.specs.Prelude.{◌≡◌, ℕ, ◌-◌, ◌%◌, ◌<◌, true, List, length, take, drop, None, Option, ◌==◌, nat_le, slice_index}
-use Rattle.grid.specs.Grid.{points, near}
+use Rattle.grid.specs.Grid.{near}
 use Rattle.grid.specs.Refusals.{unless}
 use Rattle.grid.specs.Sizes.{side_fits}
 use Rattle.chains.specs.Views.{is_point, view}

@@ -1,6 +1,6 @@
 //! Reads a board from bytes into lent memory.
 
-ghost use Rattle.std.specs.Prelude.{◌≡◌, ◌-◌, ◌<◌, ◌≤◌, true, false, ◌&&◌, ◌++◌, length, take, drop, Some, None, Ok, Err, ◌==◌, slice_index};
+ghost use Rattle.std.specs.Prelude.{◌≡◌, ℕ, ◌-◌, ◌<◌, ◌≤◌, true, false, ◌&&◌, ◌++◌, length, take, drop, Some, None, Ok, Err, Option, ◌==◌, slice_index};
 ghost use Rattle.std.specs.List.{prefix_len};
 ghost use Rattle.grid.specs.Grid.{points};
 ghost use Rattle.grid.specs.Sizes.{side_fits};
@@ -9,7 +9,7 @@ ghost use Rattle.chains.specs.Breath.{first_breathless};
 ghost use Rattle.chains.specs.Sized.{count_of, near_of, seen};
 ghost use Rattle.chains.specs.Views.{is_point};
 ghost use Rattle.notation.specs.Written.{write_refusal};
-ghost use Rattle.notation.specs.Layout.{width_of, height_of, first_length, size_refusal, cells_refusal, board_refusal, BoardRead};
+ghost use Rattle.notation.specs.Layout.{width_of, height_of, first_length, size_refusal, cells_lines, cells_refusal, board_refusal, BoardRead, MadeOf};
 
 use chains::colour::Colour;
 use chains::position::{Position, good_points};
@@ -133,6 +133,17 @@ fn calm_front(size: Size, cells: &[u8]) -> usize
         // never: the bytes are points
         Err(_) => cells.len(),
     }
+}
+
+/// The position of as many bytes as the size asks for, if all of them are points.
+pub(crate) fn position_of(size: Size, cells: &[u8]) -> Result<Position, Refusal>
+    requires { length cells.now ≡ count_of size }
+    ensures { elim result [
+      | Ok position ↦ MadeOf size cells.now position
+      | Err e ↦ (rest : Option (ℕ × ℕ)) → cells_lines size.width size.height cells.now rest ≡ Some (listed e)
+    ] }
+{
+    Position::new(size, cells)
 }
 
 /// The points, if they are points that can stand.

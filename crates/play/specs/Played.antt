@@ -1,7 +1,7 @@
 -- What the other side may play while this side passes. Assumes nothing: these are definitions.
 use Rattle.std.specs.Prelude.{◌≡◌, ℕ, ◌<◌, ◌≢◌, List, [], ◌∷◌, length, ◌==◌, slice_index}
 use Rattle.grid.specs.Graph.{Near}
-use Rattle.chains.specs.Board.{pick, State, none, mine, yours, Board, Joined, Breathes}
+use Rattle.chains.specs.Board.{pick, none, mine, yours, Board, Breathes}
 
 abbrev pub with_stone : ℕ → Board → Board
 with_stone x b q = pick (q == x) yours (b q)

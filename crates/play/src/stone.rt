@@ -113,6 +113,7 @@ fn settled(size: Size, before: [u8; MAX_POINTS], colour: Colour, point: usize) -
     Some(Made { cells, taken })
 }
 
+/// The cells with the new stone.
 fn put_stone(size: Size, cells: [u8; MAX_POINTS], colour: Colour, point: usize) -> [u8; MAX_POINTS]
     requires good { WritesPoints size.width size.height cells }
     requires inside { point < count_of size }
@@ -152,6 +153,7 @@ fn take_off(
     left
 }
 
+/// What becomes of a byte: a stone of the side that does not move goes, unless it breathes.
 fn kept(byte: u8, gone: u8, breathes: bool) -> u8
     ensures { result ≡ kept_byte gone byte breathes }
 {
@@ -191,6 +193,7 @@ fn count_taken(
     taken
 }
 
+/// Whether the byte of a stone of that kind became that of an empty point.
 fn was_taken(gone: u8, before: u8, after: u8) -> bool
     ensures { result ≡ byte_taken gone before after }
 {

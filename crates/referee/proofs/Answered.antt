@@ -9,7 +9,6 @@ use Rattle.chains.specs.Stands.{Stand}
 use Rattle.chains.specs.Views.{other}
 use Rattle.chains.specs.declared.colour.Colour.{Colour}
 use Rattle.chains.specs.declared.colour.Colour.TheVariants.{Black, White}
-use Rattle.play.specs.After.{after}
 use Rattle.play.proofs.Moves.{played_after}
 use Rattle.referee.specs.declared.moves.Move.{Move}
 use Rattle.referee.specs.declared.moves.Move.TheVariants.{Pass, At}

@@ -6,7 +6,6 @@ use Rattle.grid.specs.Grid.{points, near}
 use Rattle.grid.specs.declared.refusal.Refusal.TheVariants.{Ko, AfterEnd}
 use Rattle.grid.proofs.Square.{graph}
 use Rattle.chains.specs.Board.{yours, Board}
-use Rattle.chains.specs.Computed.{count}
 use Rattle.chains.specs.Views.{other}
 use Rattle.chains.specs.declared.colour.Colour.{Colour}
 use Rattle.chains.specs.declared.colour.Colour.TheVariants.{Black, White}

@@ -68,7 +68,7 @@ pub record FreeTo (game : Game) (cells : List ℕ) : Type 0 where
   pub differs : game.stone ≡ true → cells ≢ game.before
   pub goes_on : game.passes < 2
 
--- how many stones of a colour a stone of that side takes that takes so many: it takes those of the other side
+-- how many of the stones that a stone of that side takes are of that colour: all of them, if it is the other side's, and else none
 abbrev pub share_of : Colour → Colour → ℕ → ℕ
 share_of Black Black taken = 0
 share_of Black White taken = taken

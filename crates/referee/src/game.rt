@@ -73,6 +73,7 @@ impl Game {
         }
     }
 
+    /// What a pass comes to.
     fn pass(self, number: usize) -> Result<Game, Ended>
         ensures { (w h : ℕ) (start : Board) (ms : List Move) → Facing w h start ms number self Move.Pass → Turned w h start ms number result }
     {
@@ -82,6 +83,7 @@ impl Game {
         Ok(self.with_pass(self.side.other(), self.passes + 1))
     }
 
+    /// What is kept after a pass.
     fn with_pass(self, side: Colour, passes: usize) -> Game
         requires free { self.passes < 2 }
         requires side { side ≡ other self.side }
@@ -100,6 +102,7 @@ impl Game {
         }
     }
 
+    /// What a stone comes to.
     fn stone(self, size: Size, point: usize, number: usize) -> Result<Game, Ended>
         requires { Countable number self }
         ensures { (start : Board) (ms : List Move) → Facing size.width size.height start ms number self (Move.At point) → Turned size.width size.height start ms number result }
@@ -139,6 +142,7 @@ impl Game {
         Ok(Tried { cells, taken })
     }
 
+    /// What is kept after a stone.
     fn put(self, tried: Tried, side: Colour, passes: usize) -> Game
         requires black { self.black_taken + tried.taken < 2 ^ 64 }
         requires white { self.white_taken + tried.taken < 2 ^ 64 }
@@ -232,7 +236,7 @@ impl Ended {
     }
 }
 
-/// How many stones of a colour a stone of that side takes that takes so many.
+/// How many of the stones that a stone of that side takes are of that colour: all of them or none.
 fn share(side: Colour, colour: Colour, taken: usize) -> usize
     ensures value { result ≡ share_of side colour taken }
     ensures bound { result ≤ taken }
@@ -243,7 +247,7 @@ fn share(side: Colour, colour: Colour, taken: usize) -> usize
     }
 }
 
-/// Whether it was a stone and the cells are the same.
+/// Whether the last move was a stone and the two boards are the same.
 fn same_after(stone: bool, cells: &[u8; MAX_POINTS], before: &[u8; MAX_POINTS]) -> bool
     ensures found { result ≡ true → (stone ≡ true) × (cells.now ≡ before.now) }
     ensures looked { stone ≡ true → cells.now ≡ before.now → result ≡ true }

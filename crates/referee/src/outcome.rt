@@ -1,8 +1,9 @@
-// What a record comes to.
+//! What a record comes to.
+
 use chains::colour::Colour;
 use grid::refusal::Refusal;
 
-// Whose turn it is, that the record is over, or why a move is refused, with the number of the move.
+/// Whose turn it is, that the record is over, or why a move is refused, with the number of the move.
 #[derive(Clone, Copy, PartialEq, Eq, Debug)]
 pub enum Outcome {
     ToMove(Colour),
@@ -10,7 +11,7 @@ pub enum Outcome {
     Refused(Refusal),
 }
 
-// The outcome, how many passes stand at the end of the moves that are allowed, and how many stones of each colour these took.
+/// The outcome, how many passes stand at the end of the moves that are allowed, and how many stones of each colour these took.
 #[derive(Clone, Copy, PartialEq, Eq, Debug)]
 pub struct Answer {
     pub outcome: Outcome,

@@ -27,7 +27,7 @@ pub fn referee(size: Size, board: &mut [u8], moves: &[u8]) -> Result<Answer, Ref
     Ok(ended.hand_back(size, board))
 }
 
-/// The game before the first move.
+/// The game before the first move, or why the board or the moves are turned away.
 fn ready(size: Size, board: &[u8], moves: &[u8]) -> Result<Game, Refusal>
     ensures { elim result [
       | Ok game ↦ Ready size.width size.height board.now moves.now game

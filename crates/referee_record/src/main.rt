@@ -2,20 +2,20 @@
 
 #![tactic(auto)]
 
-use anyhow::anyhow;
 use grid::size::Size;
 use notation::lines::{outcome_line, refusal_line, row_line};
 use notation::record::referee_record;
 use std::io::Read;
+use std::process::ExitCode;
 
 /// How many points this program lends: a larger board is refused.
 const LENT_POINTS: usize = 81;
 
-fn main(rt: HostRuntime) -> anyhow::Result<()> {
-    match answer(&rt) {
-        Ok(true) => Ok(()),
-        Ok(false) => Err(anyhow!("refused")),
-        Err(error) => Err(error),
+fn main(rt: HostRuntime) -> anyhow::Result<ExitCode> {
+    if answer(&rt)? {
+        Ok(ExitCode::SUCCESS)
+    } else {
+        Ok(ExitCode::FAILURE)
     }
 }
 

@@ -1,11 +1,10 @@
 -- From the labels of chains and rooms to the rooms of each chain: what the bits of the sets say of the board.
-use Rattle.std.proofs.Common.{◌≡◌, ℕ, ◌<◌, ◌≤◌, Bool, true, false, cond, not, ◌&&◌, eqb, ◌≢◌, ◌⊎◌, List, length, get_or, Some, None, Option, sym, refl, ap, ◌∙◌, subst, inl, inr, arith}
-use Rattle.std.proofs.lemmas.Bool.{cases_Bool, both_ways, false≢true, eqb-true, eqb-false, eq-eqb, ne_eqb, and_parts, and_from, not-true, not_from_false}
+use Rattle.std.proofs.Common.{◌≡◌, ℕ, ◌<◌, ◌≤◌, Bool, true, false, not, ◌&&◌, eqb, ltb, ◌≢◌, List, length, get_or, Some, None, Option, sym, refl, ap, ◌∙◌, subst, inl, inr, arith}
+use Rattle.std.proofs.lemmas.Bool.{cases_Bool, ltb-true, both_ways, false≢true, eqb-true, eqb-false, eq-eqb, ne_eqb, and_parts, and_from, not-true, not_from_false}
 use Rattle.grid.specs.Graph.{Near, Graph}
 use Rattle.grid.specs.Neighbours.{HandsOut}
 use Rattle.grid.specs.declared.size.Size.{Size}
-use Rattle.chains.specs.Board.{State, none, mine, yours, Board, Joined, at}
-use Rattle.chains.specs.Computed.{any}
+use Rattle.chains.specs.Board.{State, none, mine, yours, Board}
 use Rattle.chains.specs.Labels.{Labelled, ChainLabels}
 use Rattle.chains.specs.Sized.{count_of, near_of, seen}
 use Rattle.chains.specs.Views.{stone_byte, view}
@@ -19,7 +18,7 @@ use Rattle.rooms.specs.Bits.{member}
 use Rattle.rooms.specs.Regions.{not_mine, OneRoom, Beside}
 use Rattle.rooms.specs.Striking.{Wall, VitalTo}
 use Rattle.rooms.specs.Numbered.{RoomLabels, IsFirst, VitalRooms, WallRooms}
-use Rattle.rooms.specs.Tables.{set_of, Paired, chain_at, is_chain, meets, in_room, wall_bit, empty_in, some_empty, some_away, vital_bit}
+use Rattle.rooms.specs.Tables.{set_of, Paired, chain_at, is_chain, meets, in_room, wall_bit, empty_in, some_empty, some_away, vital_bit, own_first}
 use Rattle.rooms.specs.Regioned.{class_of, Regioned}
 use Rattle.rooms.specs.declared.region_sets.Regions.{Regions}
 use Rattle.rooms.proofs.Numbered.{labelled_rooms}
@@ -223,12 +222,46 @@ rooms_labelled {n} {near} g cells classes labels colour class l = labelled_rooms
     rest p below clear = class p below ∙ rw (ne_eqb (get_or cells p 0) (stone_byte colour) (λ e.
         room_clear (view n cells colour) p clear (byte_view n cells colour mine p (λ z. none_mine z refl) below e))) refl
 
+-- a number that no own stone has for its chain is beside no point
+pub touch_none : {n : ℕ} {near : Near} {b : Board} {slots : ℕ → ℕ} {hand : ℕ → ℕ → Option ℕ} {chains rooms : List ℕ} → Setting n near b slots hand chains rooms →
+    (c : ℕ) → ((p : ℕ) → b p ≡ mine → get_or chains p 0 ≢ c) → (y : ℕ) → touch_of slots hand chains rooms y c ≡ false
+touch_none {n} {near} {b} {slots} {hand} {chains} {rooms} s c unowned y = elim (cases_Bool (touch_of slots hand chains rooms y c)) [
+  | inr f ↦ f
+  | inl t ↦
+      (let (k, below, is) = any_true (λ k. is_chain c (chain_at chains rooms (hand y k))) (slots y) t in
+      let (q, handed, no_room, same) = met chains rooms c (hand y k) is in
+      let next : near q y ≡ true = s.graph.symmetric y q (s.hands.sound y k q handed) in
+      absurd (unowned q (no_room_own s.graph s.small s.room_labels q (s.graph.inside q y next) no_room) (sym same)))
+]
+
+-- and is the first point of no own chain
+pub first_none : {n : ℕ} {near : Near} {b : Board} {slots : ℕ → ℕ} {hand : ℕ → ℕ → Option ℕ} {chains rooms : List ℕ} → Setting n near b slots hand chains rooms →
+    (c : ℕ) → ((p : ℕ) → b p ≡ mine → get_or chains p 0 ≢ c) → (ltb c n && own_first chains rooms c) ≡ false
+first_none {n} {chains = chains} {rooms} s c unowned = elim (cases_Bool (ltb c n && own_first chains rooms c)) [
+  | inr f ↦ f
+  | inl t ↦
+      (let (below, first) = and_parts (ltb c n) (own_first chains rooms c) t in
+      let (own, same) = and_parts (eqb (get_or rooms c 0) 65535) (eqb (get_or chains c 0) c) first in
+      absurd (unowned c (no_room_own s.graph s.small s.room_labels c (ltb-true c n below) (eqb-true (get_or rooms c 0) 65535 own)) (eqb-true (get_or chains c 0) c same)))
+]
+
 -- the first stone of an own chain is its own label
 pub first_own : {n : ℕ} {near : Near} {b : Board} {chains : List ℕ} → ChainLabels n near b chains → (p : ℕ) → b p ≡ mine →
     (b (get_or chains p 0) ≡ mine) × (get_or chains (get_or chains p 0) 0 ≡ get_or chains p 0)
 first_own {chains = chains} labels p own =
     let j = labels.joined mine p (λ z. none_mine z refl) own in
     (joined_last j, sym (labels.one_entry mine p (get_or chains p 0) (λ z. none_mine z refl) j))
+
+-- and is told by the labels
+pub chain_first : {n : ℕ} {near : Near} {b : Board} {slots : ℕ → ℕ} {hand : ℕ → ℕ → Option ℕ} {chains rooms : List ℕ} → Setting n near b slots hand chains rooms →
+    (p : ℕ) → p < n → b p ≡ mine → (get_or chains p 0 < n) × (own_first chains rooms (get_or chains p 0) ≡ true)
+chain_first {chains = chains} {rooms} s p below own =
+    let (first, same) = first_own s.chain_labels p own in
+    let inside = chain_inside s.graph s.chain_labels mine p below (λ z. none_mine z refl) own in (
+      inside,
+      and_from (eqb (get_or rooms (get_or chains p 0) 0) 65535) (eqb (get_or chains (get_or chains p 0) 0) (get_or chains p 0))
+          (eq-eqb (get_or rooms (get_or chains p 0) 0) 65535 (s.room_labels.own (get_or chains p 0) inside first)) (eq-eqb (get_or chains (get_or chains p 0) 0) (get_or chains p 0) same),
+    )
 
 -- the set for the first point of an own chain holds exactly the rooms that are vital to it
 pub first_vital : {size : Size} {cells : List ℕ} {colour : Colour} {old_chains old_rooms chains rooms : List ℕ} {regions : Regions} → Regioned size cells colour old_chains old_rooms chains rooms regions →

@@ -86,7 +86,7 @@ pub going_strike : {n : ℕ} {near : Near} → Graph n near → {b : Board} {cha
     ((i : ℕ) → member later_kept i ≡ (member kept i && not (eqb i (get_or chains c 0)))) →
     ((i : ℕ) → member later_open i ≡ (member open_rooms i && not (member beside i))) →
     Going n near b chains rooms kept open_rooms → Going n near b chains rooms later_kept later_open
-going_strike {n} {near} g {b} {chains} {rooms} {kept} {open_rooms} {vital} {beside} c later_kept later_open chain_labels room_labels v w small is_mine few kept-is open_is going =
+going_strike {n} {near} g {b} {chains} {rooms} {kept} {open_rooms} {vital} {beside} c later_kept later_open chain_labels room_labels v w small is_mine few kept_is open_is going =
     record { sound = rooms_struck_sound struck_chain struck_rooms; walls = walls }
   where
     was_parts : (p : ℕ) → kept_by b chains kept p ≡ true → (is_state mine (b p) ≡ true) × (member kept (get_or chains p 0) ≡ true)
@@ -100,7 +100,7 @@ going_strike {n} {near} g {b} {chains} {rooms} {kept} {open_rooms} {vital} {besi
           (sym (eqb-true (get_or chains p 0) (get_or chains c 0) same)))
       | inr other ↦
           inl (and_from (is_state mine (b p)) (member later_kept (get_or chains p 0)) (was_parts p h).0
-          (kept-is (get_or chains p 0) ∙ and_from (member kept (get_or chains p 0)) (not (eqb (get_or chains p 0) (get_or chains c 0))) (was_parts p h).1 (not_from_false (eqb (get_or chains p 0) (get_or chains c 0)) other)))
+          (kept_is (get_or chains p 0) ∙ and_from (member kept (get_or chains p 0)) (not (eqb (get_or chains p 0) (get_or chains c 0))) (was_parts p h).1 (not_from_false (eqb (get_or chains p 0) (get_or chains c 0)) other)))
     ]
 
     struck_chain : SoundSoFar n near b (kept_by b chains later_kept) (open_by rooms open_rooms)
@@ -109,7 +109,7 @@ going_strike {n} {near} g {b} {chains} {rooms} {kept} {open_rooms} {vital} {besi
     gone : kept_by b chains later_kept c ≡ false
     gone =
         let x = get_or chains c 0 in
-        and_right (is_state mine (b c)) (member later_kept x) (kept-is x ∙ and_right (member kept x) (not (eqb x x)) (not_from_true (eqb x x) (eq-eqb x x refl)))
+        and_right (is_state mine (b c)) (member later_kept x) (kept_is x ∙ and_right (member kept x) (not (eqb x x)) (not_from_true (eqb x x) (eq-eqb x x refl)))
 
     -- a point whose number is in the set of rooms beside the chain has no stone of mine
     clear : (y : ℕ) → y < n → member beside (get_or rooms y 0) ≡ true → not_mine b y ≡ true

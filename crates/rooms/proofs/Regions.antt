@@ -1,10 +1,10 @@
 -- Rooms: whether a point is beside a chain, and whether a room is vital to it, are decided.
-use Rattle.std.proofs.Common.{◌≡◌, ℕ, ◌<◌, Bool, true, false, ◌⊎◌, sym, refl, subst, inl, inr}
+use Rattle.std.proofs.Common.{◌≡◌, ℕ, ◌<◌, Bool, true, ◌⊎◌, sym, refl, subst, inl, inr}
 use Rattle.std.proofs.lemmas.Bool.{cases_Bool, both_ways, false≢true}
 use Rattle.grid.specs.Graph.{Near, Graph}
 use Rattle.chains.specs.Board.{none, mine, yours, Board, Joined}
 use Rattle.chains.specs.Linked.{Linked, here, step}
-use Rattle.chains.proofs.States.{Kind, is_none, is_mine, is_yours, kind, none_mine, none_yours}
+use Rattle.chains.proofs.States.{is_none, is_mine, is_yours, kind, none_mine, none_yours}
 use Rattle.chains.proofs.Below.{find}
 use Rattle.chains.proofs.Reach.{linked_or_not}
 use Rattle.chains.proofs.Chain.{joined_or_not}

@@ -1,12 +1,12 @@
 -- The rooms of the judged side, in two lent slices and in sets. Assumes nothing: these are definitions.
-use Rattle.std.specs.Prelude.{◌≡◌, ℕ, cond, List, drop, ◌==◌, slice_index}
+use Rattle.std.specs.Prelude.{◌≡◌, ℕ, cond, ◌≢◌, List, drop, ◌==◌, slice_index}
 use Rattle.grid.specs.declared.size.Size.{Size}
 use Rattle.chains.specs.Board.{mine}
 use Rattle.chains.specs.Labels.{ChainLabels}
 use Rattle.chains.specs.Sized.{count_of, near_of, seen}
 use Rattle.chains.specs.declared.colour.Colour.{Colour}
 use Rattle.rooms.specs.Numbered.{RoomLabels, VitalRooms, WallRooms}
-use Rattle.rooms.specs.Tables.{set_of}
+use Rattle.rooms.specs.Tables.{set_of, holds}
 use Rattle.rooms.specs.declared.region_sets.Regions.{Regions}
 
 -- the class of a point by its byte: 0 for an own stone and 1 for what a room is made of
@@ -24,3 +24,13 @@ pub record Regioned (size : Size) (cells : List ℕ) (colour : Colour) (old_chai
       VitalRooms (count_of size) (near_of size) (seen size cells colour) rooms p (set_of regions.vital (slice_index chains p))
   pub walls : (p : ℕ) → seen size cells colour p ≡ mine →
       WallRooms (count_of size) (near_of size) (seen size cells colour) rooms p (set_of regions.walls (slice_index chains p))
+
+-- no own stone has c for its chain
+abbrev pub NoChain : Size → List ℕ → Colour → List ℕ → ℕ → Type 0
+NoChain size cells colour chains c = (p : ℕ) → seen size cells colour p ≡ mine → slice_index chains p ≢ c
+
+-- the same where sets are written over: those of all numbers that are no own chain hold what they held
+pub record RegionsWritten (size : Size) (cells : List ℕ) (colour : Colour) (old_chains old_rooms chains rooms : List ℕ) (old_regions regions : Regions) : Type 0 where
+  pub regioned : Regioned size cells colour old_chains old_rooms chains rooms regions
+  pub vital_rest : (c i : ℕ) → NoChain size cells colour chains c → holds regions.vital c i ≡ holds old_regions.vital c i
+  pub walls_rest : (c i : ℕ) → NoChain size cells colour chains c → holds regions.walls c i ≡ holds old_regions.walls c i

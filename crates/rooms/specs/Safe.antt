@@ -1,7 +1,7 @@
 -- What the judge looks for: chains with two rooms each. Assumes nothing: these are definitions.
-use Rattle.std.specs.Prelude.{◌≡◌, ℕ, Bool, true, false, ◌≢◌, ◌⊎◌}
+use Rattle.std.specs.Prelude.{◌≡◌, ℕ, Bool, true, ◌≢◌, ◌⊎◌}
 use Rattle.grid.specs.Graph.{Near}
-use Rattle.chains.specs.Board.{State, none, mine, yours, Board, Joined}
+use Rattle.chains.specs.Board.{none, mine, Board, Joined}
 
 -- a set of points
 abbrev pub Marks : Type 0

@@ -1,6 +1,6 @@
 -- Sets of rooms, one for each chain, as two passes over the points make them from the labels of chains and rooms.
 -- An own stone has no room and an empty point no chain: their labels are 65,535. Assumes nothing: these are definitions.
-use Rattle.std.specs.Prelude.{◌≡◌, ℕ, ◌<◌, ◌≤◌, Bool, true, false, cond, not, ◌&&◌, ◌||◌, ◌≢◌, List, [], length, set, Some, None, Option, ◌==◌, nat_le, slice_index, slice_index_or, slice_set}
+use Rattle.std.specs.Prelude.{◌≡◌, ℕ, ◌<◌, ◌≤◌, Bool, false, cond, not, ◌&&◌, ◌||◌, ◌≢◌, List, [], length, Some, None, Option, ◌==◌, nat_le, nat_lt, slice_index, slice_index_or, slice_set}
 use Rattle.grid.specs.Neighbours.{slots, hand}
 use Rattle.grid.specs.Refusals.{unless}
 use Rattle.grid.specs.declared.size.Size.{Size}
@@ -15,6 +15,10 @@ set_of sets c = (slice_index_or sets c (record { words = [] })).words
 -- whether the room i is in the set for the number c
 abbrev pub holds : List RoomSet → ℕ → ℕ → Bool
 holds sets c i = member (set_of sets c) i
+
+-- the set for the number c has no room
+abbrev pub NoRoom : List RoomSet → ℕ → Type 0
+NoRoom sets c = (i : ℕ) → holds sets c i ≡ false
 
 -- the labels reach over the board, those of own stones' chains and of rooms are points
 pub record Paired (n : ℕ) (chains rooms : List ℕ) : Type 0 where
@@ -92,6 +96,18 @@ vital_next touch chains rooms firsts p c i was = cond (slice_index chains p == 6
 -- and the first empty points
 abbrev pub firsts_next : List ℕ → List ℕ → List ℕ → ℕ → List ℕ
 firsts_next chains rooms firsts p = cond (slice_index chains p == 65535) (empty_firsts firsts p (slice_index rooms p)) firsts
+
+-- whether c is the first point of an own chain
+abbrev pub own_first : List ℕ → List ℕ → ℕ → Bool
+own_first chains rooms c = slice_index rooms c == 65535 && slice_index chains c == c
+
+-- the bit after all rooms have been taken out of the sets of the own chains whose first points are below k
+abbrev pub clear_bit : List ℕ → List ℕ → ℕ → ℕ → Bool → Bool
+clear_bit chains rooms k c was = was && not (nat_lt c k && own_first chains rooms c)
+
+-- the sets of the numbers that no stone beside a point has for its chain are as they were
+abbrev pub RestKept : (ℕ → ℕ → Bool) → List RoomSet → List RoomSet → Type 0
+RestKept touch was is = (c i : ℕ) → ((p : ℕ) → touch p c ≡ false) → holds is c i ≡ holds was c i
 
 -- why chains and rooms of a board of n points cannot be written: too few entries
 abbrev pub regions_refusal : ℕ → List ℕ → List ℕ → Option (ℕ × ℕ)

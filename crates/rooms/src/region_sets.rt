@@ -8,11 +8,11 @@ ghost use Rattle.chains.specs.Sized.{count_of, near_of, seen};
 ghost use Rattle.chains.specs.Views.{stone_byte};
 ghost use Rattle.rooms.specs.Bits.{member};
 ghost use Rattle.rooms.specs.Numbered.{RoomLabels};
-ghost use Rattle.rooms.specs.Regioned.{class_of, Regioned};
-ghost use Rattle.rooms.specs.Tables.{set_of, regions_refusal};
+ghost use Rattle.rooms.specs.Regioned.{class_of, Regioned, RegionsWritten};
+ghost use Rattle.rooms.specs.Tables.{set_of, holds, regions_refusal};
 
 use crate::room_set::RoomSet;
-use crate::tables::{vital_sets, wall_sets};
+use crate::tables::{clear_chains, write_vital, write_walls};
 use chains::colour::Colour;
 use chains::labels::{MAX_POINTS, label};
 use chains::position::Position;
@@ -31,6 +31,17 @@ pub struct Regions {
 }
 
 impl Regions {
+    /// The regions of no board: no number has a room.
+    pub fn empty() -> Regions
+        ensures vital { (c i : ℕ) → holds result.vital c i ≡ false }
+        ensures walls { (c i : ℕ) → holds result.walls c i ≡ false }
+    {
+        Regions {
+            vital: no_sets(),
+            walls: no_sets(),
+        }
+    }
+
     /// Writes the first point of its chain for each stone, and the first point of its room for each point without a stone of the colour;
     /// the answer has for each chain of the colour the rooms that are vital to it, and those that have it for a wall.
     pub fn new(
@@ -56,6 +67,54 @@ impl Regions {
         Ok(write_regions(position, colour, chains, rooms))
     }
 
+    /// Writes the first point of its chain for each stone, and the first point of its room for each point without a stone of the colour;
+    /// and for each chain of the colour the rooms that are vital to it, and those that have it for a wall.
+    /// What was known of other numbers stays, so that only these sets are written.
+    pub fn write(
+        &mut self,
+        position: &Position,
+        colour: Colour,
+        chains: &mut [u16],
+        rooms: &mut [u16],
+    ) -> Result<(), Refusal>
+        ensures { elim result [
+          | Ok _ ↦ (regions_refusal (count_of position.now.size) chains.old rooms.old ≡ None)
+              × RegionsWritten position.now.size position.now.cells colour chains.old rooms.old chains.new rooms.new self.old self.new
+          | Err e ↦ (Some (listed e) ≡ regions_refusal (count_of position.now.size) chains.old rooms.old)
+              × (chains.new ≡ chains.old) × (rooms.new ≡ rooms.old) × (self.new ≡ self.old)
+        ] }
+    {
+        let count = position.size().points();
+        if chains.len() < count {
+            return Err(Refusal::TooShort(Lent::Chains));
+        }
+        if rooms.len() < count {
+            return Err(Refusal::TooShort(Lent::Rooms));
+        }
+        self.write_sets(position, colour, chains, rooms);
+        Ok(())
+    }
+
+    /// Writes both slices, and reads the sets off them.
+    fn write_sets(
+        &mut self,
+        position: &Position,
+        colour: Colour,
+        chains: &mut [u16],
+        rooms: &mut [u16],
+    )
+        requires chained { count_of position.now.size ≤ length chains.old }
+        requires roomed { count_of position.now.size ≤ length rooms.old }
+        ensures { RegionsWritten position.now.size position.now.cells colour chains.old rooms.old chains.new rooms.new self.old self.new }
+    {
+        write_chains(position, chains);
+        write_rooms(position, colour, rooms);
+        let size = position.size();
+        clear_chains(size, chains, rooms, &mut self.vital, &mut self.walls);
+        write_vital(size, chains, rooms, &mut self.vital);
+        write_walls(size, chains, rooms, &mut self.walls);
+    }
+
     /// The rooms that are vital to the chain with that first point. A number that is not there has none.
     pub fn vital(&self, chain: usize) -> RoomSet
         ensures value { chain < 361 → result.words ≡ set_of self.now.vital chain }
@@ -71,6 +130,13 @@ impl Regions {
     {
         set_at(&self.walls, chain)
     }
+}
+
+/// A set without a room for each number.
+fn no_sets() -> [RoomSet; MAX_POINTS]
+    ensures { (c i : ℕ) → holds result c i ≡ false }
+{
+    [RoomSet::empty(); MAX_POINTS]
 }
 
 fn set_at(sets: &[RoomSet; MAX_POINTS], chain: usize) -> RoomSet
@@ -126,7 +192,7 @@ fn write_rooms(position: &Position, colour: Colour, rooms: &mut [u16])
     label(position.size(), &classes, OWN, rooms);
 }
 
-/// Writes both slices, and reads the sets off them.
+/// Writes both slices, and the regions from them.
 fn write_regions(
     position: &Position,
     colour: Colour,
@@ -137,12 +203,9 @@ fn write_regions(
     requires roomed { count_of position.now.size ≤ length rooms.old }
     ensures { Regioned position.now.size position.now.cells colour chains.old rooms.old chains.new rooms.new result }
 {
-    write_chains(position, chains);
-    write_rooms(position, colour, rooms);
-    let size = position.size();
-    let vital = vital_sets(size, chains, rooms);
-    let walls = wall_sets(size, chains, rooms);
-    Regions { vital, walls }
+    let mut regions = Regions::empty();
+    regions.write_sets(position, colour, chains, rooms);
+    regions
 }
 
 #[cfg(test)]

@@ -3,7 +3,7 @@
 ghost use Rattle.std.specs.Prelude.{◌≡◌, ℕ, ◌<◌, ◌≤◌, true, not, ◌&&◌, ◌||◌, length, Some, None, ◌==◌, slice_index};
 ghost use Rattle.grid.specs.Neighbours.{hand};
 ghost use Rattle.chains.specs.Sized.{count_of, near_of};
-ghost use Rattle.rooms.specs.Tables.{holds, Paired, chain_at, touches, put_bit, keep_bit, empty_bit, empty_firsts, vital_next, firsts_next, wall_next, vital_bit, wall_bit};
+ghost use Rattle.rooms.specs.Tables.{holds, Paired, chain_at, touches, put_bit, keep_bit, empty_bit, empty_firsts, vital_next, firsts_next, wall_next, vital_bit, wall_bit, own_first, clear_bit, NoRoom, RestKept};
 
 use crate::room_set::RoomSet;
 use chains::labels::{MAX_POINTS, NO_POINT};
@@ -167,28 +167,67 @@ fn wall_point(size: Size, chains: &[u16], rooms: &[u16], p: usize, sets: &mut [R
     }
 }
 
-/// For each chain the rooms that are vital to it.
-pub(crate) fn vital_sets(size: Size, chains: &[u16], rooms: &[u16]) -> [RoomSet; MAX_POINTS]
-    requires { Paired (count_of size) chains.now rooms.now }
-    ensures { (c i : ℕ) → holds result c i
-        ≡ vital_bit (touches size chains.now rooms.now) chains.now rooms.now (count_of size) c i }
+/// Whether p is the first point of an own chain.
+fn is_first(chains: &[u16], rooms: &[u16], p: usize) -> bool
+    requires chained { p < length chains.now }
+    requires roomed { p < length rooms.now }
+    ensures { result ≡ own_first chains.now rooms.now p }
 {
-    let mut firsts = [NO_POINT; MAX_POINTS];
-    let mut sets = [RoomSet::empty(); MAX_POINTS];
-    for p in 0..size.points() {
-        vital_point(size, chains, rooms, p, &mut firsts, &mut sets);
-    }
-    sets
+    rooms[p] == NO_POINT && chains[p] as usize == p
 }
 
-/// For each chain the rooms that have it for a wall.
-pub(crate) fn wall_sets(size: Size, chains: &[u16], rooms: &[u16]) -> [RoomSet; MAX_POINTS]
-    requires { Paired (count_of size) chains.now rooms.now }
-    ensures { (c i : ℕ) → holds result c i ≡ wall_bit (touches size chains.now rooms.now) rooms.now (count_of size) c i }
+/// Takes all rooms out of the set of the chain.
+fn clear(sets: &mut [RoomSet], chain: usize)
+    requires { chain < length sets.old }
+    ensures { (c i : ℕ) → holds sets.new c i ≡ (holds sets.old c i && not (c == chain)) }
 {
-    let mut sets = [RoomSet::empty(); MAX_POINTS];
+    sets[chain] = RoomSet::empty();
+}
+
+/// Takes all rooms out of both sets of each own chain.
+pub(crate) fn clear_chains(
+    size: Size,
+    chains: &[u16],
+    rooms: &[u16],
+    vital: &mut [RoomSet],
+    walls: &mut [RoomSet],
+)
+    requires paired { Paired (count_of size) chains.now rooms.now }
+    requires long { (count_of size ≤ length vital.old) × (count_of size ≤ length walls.old) }
+    ensures vital { (c i : ℕ) → holds vital.new c i ≡ clear_bit chains.now rooms.now (count_of size) c (holds vital.old c i) }
+    ensures walls { (c i : ℕ) → holds walls.new c i ≡ clear_bit chains.now rooms.now (count_of size) c (holds walls.old c i) }
+{
     for p in 0..size.points() {
-        wall_point(size, chains, rooms, p, &mut sets);
+        if is_first(chains, rooms, p) {
+            clear(vital, p);
+            clear(walls, p);
+        }
     }
-    sets
+}
+
+/// Puts the rooms that are vital to each chain into its set, if the set has no room yet.
+pub(crate) fn write_vital(size: Size, chains: &[u16], rooms: &[u16], sets: &mut [RoomSet])
+    requires paired { Paired (count_of size) chains.now rooms.now }
+    requires long { count_of size ≤ length sets.old }
+    ensures bits { (c i : ℕ) → NoRoom sets.old c → holds sets.new c i
+        ≡ vital_bit (touches size chains.now rooms.now) chains.now rooms.now (count_of size) c i }
+    ensures rest { RestKept (touches size chains.now rooms.now) sets.old sets.new }
+{
+    let mut firsts = [NO_POINT; MAX_POINTS];
+    for p in 0..size.points() {
+        vital_point(size, chains, rooms, p, &mut firsts, sets);
+    }
+}
+
+/// Puts the rooms that have each chain for a wall into its set, if the set has no room yet.
+pub(crate) fn write_walls(size: Size, chains: &[u16], rooms: &[u16], sets: &mut [RoomSet])
+    requires paired { Paired (count_of size) chains.now rooms.now }
+    requires long { count_of size ≤ length sets.old }
+    ensures bits { (c i : ℕ) → NoRoom sets.old c → holds sets.new c i
+        ≡ wall_bit (touches size chains.now rooms.now) rooms.now (count_of size) c i }
+    ensures rest { RestKept (touches size chains.now rooms.now) sets.old sets.new }
+{
+    for p in 0..size.points() {
+        wall_point(size, chains, rooms, p, sets);
+    }
 }

@@ -1,4 +1,4 @@
-use Rattle.std.proofs.Common.{◌≡◌, ℕ, ◌<◌, ◌≤◌, drop, sym, ◌∙◌, subst, arith}
+use Rattle.std.proofs.Common.{◌≡◌, ℕ, drop, ◌∙◌, subst, arith}
 use Rattle.grid.specs.Grid.{points}
 use Rattle.grid.proofs.Square.{graph}
 use Rattle.chains.proofs.Labelling.{labelling_start, labelling_skip, labelling_step, labelling_end, past_same}

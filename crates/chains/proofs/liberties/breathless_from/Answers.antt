@@ -1,4 +1,4 @@
-use Rattle.std.proofs.Common.{◌≡◌, ◌<◌, sym, ◌∙◌, arith}
+use Rattle.std.proofs.Common.{◌<◌, sym, arith}
 use Rattle.chains.specs.Sized.{count_of}
 use Rattle.chains.proofs.Searching.{Looked, looked_from, looked_value, looked_first, looked_stands, looked_none}
 use Rattle.chains.proofs.liberties.breathless_from.Goals as goal

@@ -1,4 +1,4 @@
-use Rattle.std.proofs.Common.{◌≡◌, ℕ, false, get_or, sym, ◌∙◌, subst, arith, rules}
+use Rattle.std.proofs.Common.{◌≡◌, ℕ, false, get_or, sym, ◌∙◌, subst, arith}
 use Rattle.chains.specs.Marks.{stone_mark}
 use Rattle.chains.specs.Sized.{count_of}
 use Rattle.chains.proofs.Marking.{stones_start, stones_skip, stones_step}

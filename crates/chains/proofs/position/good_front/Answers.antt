@@ -1,4 +1,4 @@
-use Rattle.std.proofs.Common.{◌≡◌, ℕ, ◌<◌, true, false, get_or, sym, ◌∙◌, arith, rules}
+use Rattle.std.proofs.Common.{◌≡◌, ℕ, ◌<◌, true, get_or, arith, rules}
 use Rattle.chains.specs.Views.{is_point}
 use Rattle.chains.proofs.Cells.{leading_take}
 use Rattle.chains.proofs.position.good_front.Goals as goal

@@ -1,4 +1,4 @@
-use Rattle.std.proofs.Common.{◌≡◌, ℕ, leb, length, Some, None, arith}
+use Rattle.std.proofs.Common.{◌≡◌, ℕ, leb, length, Some, arith}
 use Rattle.grid.specs.Refusals.{listed, unless}
 use Rattle.grid.specs.declared.size.Size.{Size}
 use Rattle.chains.specs.Board.{Board}

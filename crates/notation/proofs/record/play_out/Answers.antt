@@ -1,4 +1,4 @@
-use Rattle.std.proofs.Common.{◌≡◌, ℕ, List, length, drop, sym, ap, ◌∙◌, subst, arith}
+use Rattle.std.proofs.Common.{◌≡◌, ℕ, List, length, drop, ap, ◌∙◌, subst, arith}
 use Rattle.chains.specs.Board.{Board}
 use Rattle.chains.specs.Sized.{count_of, near_of, seen}
 use Rattle.chains.specs.declared.colour.Colour.TheVariants.{Black}

@@ -1,4 +1,3 @@
-use Rattle.std.proofs.Common.{rules}
 use Rattle.grid.proofs.Square.{graph}
 use Rattle.chains.proofs.Views.{labelled_chains}
 use Rattle.chains.proofs.position.Position.label_chains.Goals as goal

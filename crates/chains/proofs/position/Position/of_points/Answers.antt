@@ -1,4 +1,4 @@
-use Rattle.std.proofs.Common.{◌≡◌, refl, arith}
+use Rattle.std.proofs.Common.{refl, arith}
 use Rattle.grid.specs.Grid.{points}
 use Rattle.chains.proofs.Cells.{copying_start, copying_end}
 use Rattle.chains.proofs.position.Position.of_points.Goals as goal

@@ -1,4 +1,3 @@
-use Rattle.std.proofs.Common.{ℕ, ◌<◌}
 use Rattle.chains.proofs.Cells.{Copying}
 use Rattle.chains.proofs.position.Position.of_points.Given as goal
 

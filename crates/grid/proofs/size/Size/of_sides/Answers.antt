@@ -1,4 +1,4 @@
-use Rattle.std.proofs.Common.{◌*◌, ◌≤◌, mul-le-mul, arith}
+use Rattle.std.proofs.Common.{◌*◌, ◌≤◌, mul-le-mul}
 use Rattle.grid.proofs.size.Size.of_sides.Goals as goal
 
 pub invariant_of-result : goal.invariant_of-result

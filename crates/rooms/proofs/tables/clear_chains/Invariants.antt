@@ -1,0 +1,10 @@
+use Rattle.std.proofs.Common.{◌≡◌, ℕ, length}
+use Rattle.rooms.specs.Tables.{holds, clear_bit}
+use Rattle.rooms.proofs.tables.clear_chains.Given as goal
+
+-- the sets of the own chains whose first points are before p are cleared
+abbrev pub invariant-loop-p : goal.invariant-loop-p
+invariant-loop-p l =
+    (length l.vital ≡ length l.initial.vital) × (length l.walls ≡ length l.initial.walls)
+    × ((c i : ℕ) → holds l.vital c i ≡ clear_bit l.chains l.rooms l.p c (holds l.initial.vital c i))
+    × ((c i : ℕ) → holds l.walls c i ≡ clear_bit l.chains l.rooms l.p c (holds l.initial.walls c i))
