@@ -1,4 +1,5 @@
 #!/bin/sh
+# Nothing to measure today: it is of a judge_board that prints rows of moves, and of the commands of an older kit (docs/PORT.md).
 # Prints what all rows of moves of one board cost: instructions of judge_board by callgrind, without starting the program and
 # without judging, with the number of rows and of their moves. judge_board lends memory for 81 points; here it is built in a copy
 # under target/bench that lends it for 361. Needs valgrind and python3.

@@ -3,6 +3,8 @@
 #![tactic(auto)]
 
 #[cfg(test)]
+mod all_boards;
+#[cfg(test)]
 mod auditing;
 #[cfg(test)]
 mod auditing_bytes;
