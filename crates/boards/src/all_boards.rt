@@ -1,7 +1,7 @@
 // The judge on all boards whose judgement is known, in both colours.
 use crate::drawing::board;
 use crate::memory::{ENTRY_BEFORE, Lengths, Memory};
-use crate::table::{COLOURS, known_boards};
+use crate::table::{COLOURS, KNOWN_BOARDS};
 use chains::colour::Colour;
 use chains::labels::{MAX_POINTS, NO_POINT};
 use chains::position::Position;
@@ -14,33 +14,30 @@ use std::alloc::Global;
 use std::process::Abort;
 use std::test::Fail;
 
+// How much is lent: as many points as the largest of these boards has, and as many as any board has.
+const LENT: [usize; 2] = [24, MAX_POINTS];
+
 // The line that the judging program prints for the stones of one colour ends in this list.
 fn printed(
-    rt: &impl Abort,
-    heap: Global,
-    position: Position,
+    rt: &(impl Abort + Alloc<A = Global>),
+    bytes: &[u8],
     colour: Colour,
     list: &str,
 ) -> Result<(), Fail> {
-    let mut memory = Memory::new();
-    let bytes = write_board(heap, position.size(), &position.cells())?;
-    let Ok(judged) = judge_board(
-        &bytes,
-        colour,
-        &mut memory.points,
-        &mut memory.chains,
-        &mut memory.rooms,
-    ) else {
-        return Err(Fail::new("refused"));
-    };
-    let line = match colour {
-        Colour::Black => format!(in heap; "X {list}")?,
-        Colour::White => format!(in heap; "O {list}")?,
-    };
-    assert_eq!(rt;
-        marks_line(heap, colour, &judged.marks.entries())?.as_str(),
-        line.as_str()
-    );
+    let line = format!(in rt.alloc(); "{colour} {list}")?;
+    for lent in LENT {
+        assert!(rt; lent <= MAX_POINTS);
+        let mut memory = Memory::new();
+        let judged = judge_board(
+            bytes,
+            colour,
+            &mut memory.points[0..lent],
+            &mut memory.chains[0..lent],
+            &mut memory.rooms[0..lent],
+        )?;
+        let marks = marks_line(rt.alloc(), colour, &judged.marks.entries())?;
+        assert_eq!(rt; marks.as_str(), line.as_str());
+    }
     Ok(())
 }
 
@@ -52,12 +49,10 @@ fn judged(
     marked: [bool; MAX_POINTS],
 ) -> Result<(), Fail> {
     let mut memory = Memory::new();
-    let Ok(marks) = judge(position, colour, &mut memory.chains, &mut memory.rooms) else {
-        return Err(Fail::new("refused"));
-    };
+    let marks = judge(position, colour, &mut memory.chains, &mut memory.rooms)?;
     assert_eq!(rt; marks.entries(), marked);
-    for p in 0..MAX_POINTS {
-        assert_eq!(rt; marks.has(p), marked[p]);
+    for (point, mark) in marked.iter().enumerate() {
+        assert_eq!(rt; marks.has(point), *mark);
     }
     assert!(rt; !marks.has(MAX_POINTS));
     Ok(())
@@ -66,12 +61,14 @@ fn judged(
 #[test]
 fn all_boards(rt: HostRuntime) -> Result<(), Fail> {
     for colour in COLOURS {
-        for known in known_boards() {
+        for known in KNOWN_BOARDS {
             let position = known.board(&rt, colour)?;
             judged(&rt, position, colour, known.marks(&rt)?)?;
             judged(&rt, position, colour.other(), [false; MAX_POINTS])?;
-            printed(&rt, rt.alloc(), position, colour, known.marked)?;
-            printed(&rt, rt.alloc(), position, colour.other(), "none")?;
+            let bytes = write_board(rt.alloc(), position.size(), &position.cells())?;
+            assert_eq!(rt; bytes.as_slice(), known.bytes(colour));
+            printed(&rt, &bytes, colour, known.marked)?;
+            printed(&rt, &bytes, colour.other(), "none")?;
         }
     }
     Ok(())
@@ -88,24 +85,17 @@ fn labels_are_written(rt: HostRuntime) -> Result<(), Fail> {
     Ok(())
 }
 
-fn refused(
-    rt: &impl Abort,
-    position: Position,
-    lent: Lengths,
-    expected: Refusal,
-) -> Result<(), Fail> {
+fn refused(rt: &impl Abort, position: Position, lent: Lengths, expected: Refusal) {
     let mut memory = Memory::new();
     assert!(rt; lent.chains <= MAX_POINTS && lent.rooms <= MAX_POINTS);
-    match judge(
+    let refused = judge(
         position,
         Colour::Black,
         &mut memory.chains[0..lent.chains],
         &mut memory.rooms[0..lent.rooms],
-    ) {
-        Ok(_) => return Err(Fail::new("judged")),
-        Err(refusal) => assert_eq!(rt; refusal, expected),
-    }
-    memory.untouched(rt)
+    );
+    assert_eq!(rt; refused.err(), Some(expected));
+    memory.untouched(rt);
 }
 
 // Lent memory is looked at before the board.
@@ -118,30 +108,23 @@ fn refusals(rt: HostRuntime) -> Result<(), Fail> {
         (Lengths::all(4), Refusal::NoLiberty(2)),
     ];
     for (lent, expected) in cases {
-        refused(&rt, board(&rt, ".XOX")?, lent, expected)?;
+        refused(&rt, board(&rt, ".XOX")?, lent, expected);
     }
     Ok(())
 }
 
-fn bytes_refused(
-    rt: &impl Abort,
-    bytes: &[u8],
-    lent: Lengths,
-    expected: Refusal,
-) -> Result<(), Fail> {
+fn bytes_refused(rt: &impl Abort, bytes: &[u8], lent: Lengths, expected: Refusal) {
     let mut memory = Memory::new();
     assert!(rt; lent.points <= MAX_POINTS && lent.chains <= MAX_POINTS && lent.rooms <= MAX_POINTS);
-    match judge_board(
+    let refused = judge_board(
         bytes,
         Colour::White,
         &mut memory.points[0..lent.points],
         &mut memory.chains[0..lent.chains],
         &mut memory.rooms[0..lent.rooms],
-    ) {
-        Ok(_) => return Err(Fail::new("judged")),
-        Err(refusal) => assert_eq!(rt; refusal, expected),
-    }
-    memory.untouched(rt)
+    );
+    assert_eq!(rt; refused.err(), Some(expected));
+    memory.untouched(rt);
 }
 
 // All memory is asked for before the points are counted, and nothing is written before the last check.
@@ -150,9 +133,14 @@ fn refusals_of_bytes(rt: HostRuntime) -> Result<(), Fail> {
     let all = Lengths::all(3);
     let points = Lengths::all(2).with(Lent::Points, 3);
     let both = points.with(Lent::Chains, 3);
-    let cases: [(&[u8], Lengths, Refusal); 8] = [
+    let cases: [(&[u8], Lengths, Refusal); 9] = [
         (b"\x14\x00", Lengths::all(0), Refusal::BadSide(Side::Width)),
         (b"\x03\x00", Lengths::all(0), Refusal::BadSide(Side::Height)),
+        (
+            b"\x03\x00",
+            Lengths::all(24),
+            Refusal::BadSide(Side::Height),
+        ),
         (
             b"\x03\x01X",
             Lengths::all(2),
@@ -165,7 +153,7 @@ fn refusals_of_bytes(rt: HostRuntime) -> Result<(), Fail> {
         (b"\x03\x01XO.", all, Refusal::NoLiberty(0)),
     ];
     for (bytes, lent, expected) in cases {
-        bytes_refused(&rt, bytes, lent, expected)?;
+        bytes_refused(&rt, bytes, lent, expected);
     }
     Ok(())
 }

@@ -2,7 +2,7 @@
 use crate::drawing::board;
 use crate::memory::{Lengths, Memory, unwritten_from};
 use crate::rows::takes;
-use crate::table::{COLOURS, known_boards};
+use crate::table::{COLOURS, KNOWN_BOARDS};
 use capture::audit::{Verdict, audit};
 use chains::colour::Colour;
 use chains::labels::MAX_POINTS;
@@ -25,40 +25,33 @@ fn number(colour: Colour) -> u8 {
 
 // The byte of each point that has a mark is 1.
 fn bytes_of(marked: &[bool; MAX_POINTS]) -> [u8; MAX_POINTS] {
-    let mut bytes = [0; MAX_POINTS];
-    for p in 0..MAX_POINTS {
-        bytes[p] = u8::from(marked[p]);
-    }
-    bytes
+    marked.map(u8::from)
 }
 
 // A mark too many is shown by a row that takes the stone, and nothing is written past it; no row is written otherwise.
 fn audited(
-    rt: &impl Abort,
-    heap: Global,
+    rt: &(impl Abort + Alloc<A = Global>),
     position: Position,
     colour: Colour,
     marks: &[u8],
 ) -> Result<Verdict, Fail> {
     let mut memory = Memory::new();
-    let Ok(verdict) = audit(
+    let verdict = audit(
         position,
         number(colour),
         marks,
         &mut memory.chains,
         &mut memory.rooms,
         &mut memory.moves,
-    ) else {
-        return Err(Fail::new("refused"));
-    };
+    )?;
     let count = match verdict {
         Verdict::TooMany { moves, .. } => moves,
         _ => 0,
     };
     assert!(rt; count <= position.size().points() && count <= MAX_POINTS);
-    unwritten_from(rt, &memory.moves, count)?;
+    unwritten_from(rt, &memory.moves, count);
     if let Verdict::TooMany { point, .. } = verdict {
-        takes(rt, heap, position, point, &memory.moves[0..count])?;
+        takes(rt, position, point, &memory.moves[0..count])?;
     }
     Ok(verdict)
 }
@@ -99,19 +92,19 @@ fn names(
 
 // Right marks are right, and a wrong one is named at each point.
 fn each_point(
-    rt: &impl Abort,
-    heap: Global,
+    rt: &(impl Abort + Alloc<A = Global>),
     position: Position,
     colour: Colour,
     marked: &[bool; MAX_POINTS],
 ) -> Result<(), Fail> {
     let count = position.size().points();
-    let right = audited(rt, heap, position, colour, &bytes_of(marked)[0..count])?;
+    let right = audited(rt, position, colour, &bytes_of(marked)[0..count])?;
     assert_eq!(rt; right, Verdict::Right);
-    for p in 0..count {
-        let marks = bytes_of(&turned(marked, p));
-        let verdict = audited(rt, heap, position, colour, &marks[0..count])?;
-        names(rt, verdict, p, marked[p], position.at(p) == Some(colour))?;
+    for (point, mark) in marked.iter().enumerate().take(count) {
+        let marks = bytes_of(&turned(marked, point));
+        let verdict = audited(rt, position, colour, &marks[0..count])?;
+        let own = position.at(point) == Some(colour);
+        names(rt, verdict, point, *mark, own)?;
     }
     Ok(())
 }
@@ -119,16 +112,10 @@ fn each_point(
 #[test]
 fn all_boards(rt: HostRuntime) -> Result<(), Fail> {
     for colour in COLOURS {
-        for known in known_boards() {
+        for known in KNOWN_BOARDS {
             let position = known.board(&rt, colour)?;
-            each_point(&rt, rt.alloc(), position, colour, &known.marks(&rt)?)?;
-            each_point(
-                &rt,
-                rt.alloc(),
-                position,
-                colour.other(),
-                &[false; MAX_POINTS],
-            )?;
+            each_point(&rt, position, colour, &known.marks(&rt)?)?;
+            each_point(&rt, position, colour.other(), &[false; MAX_POINTS])?;
         }
     }
     Ok(())
@@ -145,7 +132,7 @@ fn the_first_wrong_point_is_named(rt: HostRuntime) -> Result<(), Fail> {
         (".X..X.", &[0, 1, 0, 0, 1, 0], too_many),
     ];
     for (drawing, marks, verdict) in cases {
-        let found = audited(&rt, rt.alloc(), board(&rt, drawing)?, Colour::Black, marks)?;
+        let found = audited(&rt, board(&rt, drawing)?, Colour::Black, marks)?;
         assert_eq!(rt; found, verdict);
     }
     Ok(())
@@ -158,21 +145,19 @@ fn refused(
     marks: &[u8],
     lent: Lengths,
     expected: Refusal,
-) -> Result<(), Fail> {
+) {
     let mut memory = Memory::new();
     assert!(rt; lent.chains <= MAX_POINTS && lent.rooms <= MAX_POINTS && lent.moves <= MAX_POINTS);
-    match audit(
+    let refused = audit(
         position,
         colour,
         marks,
         &mut memory.chains[0..lent.chains],
         &mut memory.rooms[0..lent.rooms],
         &mut memory.moves[0..lent.moves],
-    ) {
-        Ok(_) => return Err(Fail::new("audited")),
-        Err(refusal) => assert_eq!(rt; refusal, expected),
-    }
-    memory.untouched(rt)
+    );
+    assert_eq!(rt; refused.err(), Some(expected));
+    memory.untouched(rt);
 }
 
 // Lent memory is looked at before the board, and the board before the marks.
@@ -190,8 +175,8 @@ fn memory_and_boards_are_refused(rt: HostRuntime) -> Result<(), Fail> {
         (all, Refusal::NoLiberty(0)),
     ];
     for (lent, expected) in cases {
-        refused(&rt, board(&rt, "XX")?, 2, &[2], lent, expected)?;
-        refused(&rt, board(&rt, "XX")?, WHITE, &[0; 2], lent, expected)?;
+        refused(&rt, board(&rt, "XX")?, 2, &[2], lent, expected);
+        refused(&rt, board(&rt, "XX")?, WHITE, &[0; 2], lent, expected);
     }
     let second = Refusal::NoLiberty(2);
     refused(
@@ -201,7 +186,8 @@ fn memory_and_boards_are_refused(rt: HostRuntime) -> Result<(), Fail> {
         &[0; 3],
         Lengths::all(3),
         second,
-    )
+    );
+    Ok(())
 }
 
 // The colour is looked at before the number of the bytes, and that before the bytes.
@@ -230,7 +216,7 @@ fn marks_are_refused(rt: HostRuntime) -> Result<(), Fail> {
             marks,
             Lengths::all(5),
             expected,
-        )?;
+        );
     }
     Ok(())
 }

@@ -49,7 +49,7 @@ fn audited(rt: &impl Abort, expected: AuditCase) -> Result<[u16; MAX_POINTS], Fa
         Verdict::TooMany { moves, .. } => moves,
         _ => 0,
     };
-    unwritten_from(rt, &moves, count)?;
+    unwritten_from(rt, &moves, count);
     Ok(moves)
 }
 
@@ -102,7 +102,7 @@ fn a_mark_too_many_is_shown_by_a_row(rt: HostRuntime) -> Result<(), Fail> {
         rooms: [0, none, 2, 2, none, 5, before],
     };
     let row = audited(&rt, two_chains)?;
-    takes(&rt, rt.alloc(), board(&rt, ".X..X.")?, 1, &row[0..2])?;
+    takes(&rt, board(&rt, ".X..X.")?, 1, &row[0..2])?;
     let row = audited(
         &rt,
         AuditCase {
@@ -114,7 +114,7 @@ fn a_mark_too_many_is_shown_by_a_row(rt: HostRuntime) -> Result<(), Fail> {
             ..two_chains
         },
     )?;
-    takes(&rt, rt.alloc(), board(&rt, ".XX...")?, 1, &row[0..2])
+    takes(&rt, board(&rt, ".XX...")?, 1, &row[0..2])
 }
 
 fn refused(
@@ -124,11 +124,11 @@ fn refused(
     marks: &[u8],
     lent: Lengths,
     expected: Refusal,
-) -> Result<(), Fail> {
+) {
     let mut memory = Memory::new();
     assert!(rt; lent.points <= MAX_POINTS && lent.chains <= MAX_POINTS);
     assert!(rt; lent.rooms <= MAX_POINTS && lent.moves <= MAX_POINTS);
-    match audit_marks(
+    let refused = audit_marks(
         bytes,
         colour,
         marks,
@@ -136,18 +136,16 @@ fn refused(
         &mut memory.chains[0..lent.chains],
         &mut memory.rooms[0..lent.rooms],
         &mut memory.moves[0..lent.moves],
-    ) {
-        Ok(_) => return Err(Fail::new("audited")),
-        Err(refusal) => assert_eq!(rt; refusal, expected),
-    }
-    memory.untouched(rt)
+    );
+    assert_eq!(rt; refused.err(), Some(expected));
+    memory.untouched(rt);
 }
 
 // Whatever the marks are.
 #[test]
 fn faulty_bytes_and_short_memory_are_refused_before_the_marks(rt: HostRuntime) -> Result<(), Fail> {
     for faulty in faulty_bytes() {
-        refused(&rt, faulty.bytes, 2, &[2], faulty.lent, faulty.refusal)?;
+        refused(&rt, faulty.bytes, 2, &[2], faulty.lent, faulty.refusal);
         refused(
             &rt,
             faulty.bytes,
@@ -155,7 +153,7 @@ fn faulty_bytes_and_short_memory_are_refused_before_the_marks(rt: HostRuntime) -
             &[0; 5],
             faulty.lent,
             faulty.refusal,
-        )?;
+        );
     }
     Ok(())
 }
@@ -176,7 +174,7 @@ fn marks_are_refused(rt: HostRuntime) -> Result<(), Fail> {
     ];
     for (colour, marks, place) in cases {
         let expected = Refusal::BadMarks(place);
-        refused(&rt, b"\x02\x01X.", colour, marks, Lengths::all(2), expected)?;
+        refused(&rt, b"\x02\x01X.", colour, marks, Lengths::all(2), expected);
     }
     Ok(())
 }

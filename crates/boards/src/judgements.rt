@@ -13,18 +13,16 @@ use std::test::Fail;
 // The judgement of the black stones. Nothing is written past the board.
 fn judged(rt: &impl Abort, position: Position) -> Result<Judgement, Fail> {
     let mut memory = Memory::new();
-    let Ok(judgement) = Judgement::new(
+    let judgement = Judgement::new(
         position,
         Colour::Black,
         &mut memory.chains,
         &mut memory.rooms,
-    ) else {
-        return Err(Fail::new("refused"));
-    };
+    )?;
     let count = position.size().points();
     assert_eq!(rt; judgement.size().points(), count);
-    unwritten_from(rt, &memory.chains, count)?;
-    unwritten_from(rt, &memory.rooms, count)?;
+    unwritten_from(rt, &memory.chains, count);
+    unwritten_from(rt, &memory.rooms, count);
     Ok(judgement)
 }
 
@@ -38,7 +36,7 @@ fn one_judgement_shows_many_rows(rt: HostRuntime) -> Result<(), Fail> {
         assert!(rt; !judgement.marks().has(point));
         assert_eq!(rt; judgement.row(point, &mut moves), Ok(2));
         assert_eq!(rt; moves, [3, 0, before, before, before, before]);
-        takes(&rt, rt.alloc(), position, point, &moves[0..2])?;
+        takes(&rt, position, point, &moves[0..2])?;
     }
     Ok(())
 }
@@ -60,30 +58,23 @@ fn rows_are_refused_in_order_and_change_nothing(rt: HostRuntime) -> Result<(), F
         assert!(rt; lent <= MAX_POINTS);
         let row = judged(&rt, board(&rt, drawing)?)?.row(point, &mut memory.moves[0..lent]);
         assert_eq!(rt; row, Err(expected));
-        memory.untouched(&rt)?;
+        memory.untouched(&rt);
     }
     assert!(rt; judged(&rt, board(&rt, ".X.X.")?)?.marks().has(1));
     Ok(())
 }
 
-fn refused(
-    rt: &impl Abort,
-    position: Position,
-    lent: Lengths,
-    expected: Refusal,
-) -> Result<(), Fail> {
+fn refused(rt: &impl Abort, position: Position, lent: Lengths, expected: Refusal) {
     let mut memory = Memory::new();
     assert!(rt; lent.chains <= MAX_POINTS && lent.rooms <= MAX_POINTS);
-    match Judgement::new(
+    let refused = Judgement::new(
         position,
         Colour::Black,
         &mut memory.chains[0..lent.chains],
         &mut memory.rooms[0..lent.rooms],
-    ) {
-        Ok(_) => return Err(Fail::new("judged")),
-        Err(refusal) => assert_eq!(rt; refusal, expected),
-    }
-    memory.untouched(rt)
+    );
+    assert_eq!(rt; refused.err(), Some(expected));
+    memory.untouched(rt);
 }
 
 #[test]
@@ -96,7 +87,7 @@ fn a_judgement_is_refused_as_by_the_judge(rt: HostRuntime) -> Result<(), Fail> {
         (all, Refusal::NoLiberty(0)),
     ];
     for (lent, expected) in cases {
-        refused(&rt, board(&rt, "XX")?, lent, expected)?;
+        refused(&rt, board(&rt, "XX")?, lent, expected);
     }
     Ok(())
 }

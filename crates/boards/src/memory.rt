@@ -2,7 +2,6 @@
 use chains::labels::MAX_POINTS;
 use grid::refusal::Lent;
 use std::process::Abort;
-use std::test::Fail;
 
 pub const POINT_BEFORE: u8 = b'#';
 
@@ -27,25 +26,22 @@ impl Memory {
     }
 
     // Every entry is what it was before.
-    pub fn untouched(&self, rt: &impl Abort) -> Result<(), Fail> {
+    pub fn untouched(&self, rt: &impl Abort) {
         assert_eq!(rt; self.points, [POINT_BEFORE; MAX_POINTS]);
         assert_eq!(rt; self.chains, [ENTRY_BEFORE; MAX_POINTS]);
         assert_eq!(rt; self.rooms, [ENTRY_BEFORE; MAX_POINTS]);
         assert_eq!(rt; self.moves, [ENTRY_BEFORE; MAX_POINTS]);
-        Ok(())
     }
 }
 
 // Nothing is written from this entry on.
-pub fn unwritten_from(
-    rt: &impl Abort,
-    entries: &[u16; MAX_POINTS],
-    first: usize,
-) -> Result<(), Fail> {
-    for k in first..MAX_POINTS {
-        assert_eq!(rt; entries[k], ENTRY_BEFORE);
-    }
-    Ok(())
+pub fn unwritten_from(rt: &impl Abort, entries: &[u16; MAX_POINTS], first: usize) {
+    assert!(rt;
+        entries
+            .iter()
+            .skip(first)
+            .all(|entry| *entry == ENTRY_BEFORE)
+    );
 }
 
 // How many entries of each are lent.

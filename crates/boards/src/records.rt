@@ -2,7 +2,7 @@
 use chains::colour::Colour;
 use grid::refusal::Refusal;
 use notation::record::referee_record;
-use referee::outcome::Outcome;
+use referee::outcome::{Answer, Outcome};
 use std::process::Abort;
 use std::test::Fail;
 
@@ -15,18 +15,17 @@ fn refereed(
     bytes: &[u8],
     left: [u8; 12],
     outcome: Outcome,
-    counts: (usize, usize, usize),
+    (passes, black_taken, white_taken): (usize, usize, usize),
 ) -> Result<(), Fail> {
     let mut lent = [BEFORE; 12];
-    match referee_record(bytes, &mut lent) {
-        Ok(answered) => {
-            assert_eq!(rt; answered.answer.outcome, outcome);
-            assert_eq!(rt; answered.answer.passes, counts.0);
-            assert_eq!(rt; answered.answer.black_taken, counts.1);
-            assert_eq!(rt; answered.answer.white_taken, counts.2);
-        }
-        Err(_) => return Err(Fail::new("refused")),
-    }
+    let answered = referee_record(bytes, &mut lent)?;
+    let expected = Answer {
+        outcome,
+        passes,
+        black_taken,
+        white_taken,
+    };
+    assert_eq!(rt; answered.answer, expected);
     assert_eq!(rt; lent, left);
     Ok(())
 }
@@ -300,10 +299,8 @@ fn seventy_thousand_moves(rt: HostRuntime) -> Result<(), Fail> {
         bytes.extend_from_slice(b"\x02\x00\x03\x00\x00\x00\x02\x00\x00\x00\x01\x00")?;
     }
     let mut lent = [BEFORE; 4];
-    match referee_record(&bytes, &mut lent) {
-        Ok(answered) => assert_eq!(rt; answered.answer.outcome, Outcome::ToMove(Colour::Black)),
-        Err(_) => return Err(Fail::new("refused")),
-    }
+    let answered = referee_record(&bytes, &mut lent)?;
+    assert_eq!(rt; answered.answer.outcome, Outcome::ToMove(Colour::Black));
     assert_eq!(rt; lent, *b"XO..");
     Ok(())
 }

@@ -14,10 +14,9 @@ use std::process::Abort;
 use std::test::Fail;
 
 // The other side plays the moves one after the other, and each is allowed: after the last one the stone is not there. A record in
-// which the side of the stone passes in its turns leaves the same board, and it is that side's turn.
+// which the side of the stone passes in its turns leaves the same board, and it is that side's turn; nothing is written past it.
 pub fn takes(
-    rt: &impl Abort,
-    heap: Global,
+    rt: &(impl Abort + Alloc<A = Global>),
     position: Position,
     point: usize,
     moves: &[u16],
@@ -30,13 +29,14 @@ pub fn takes(
     let taken = replay(rt, size, &mut left, colour.other(), moves)?;
     assert!(rt; point < MAX_POINTS);
     assert_eq!(rt; left[point], EMPTY_BYTE);
-    let bytes = record(heap, position, colour, moves)?;
+    let bytes = record(rt.alloc(), position, colour, moves)?;
     let mut lent = [POINT_BEFORE; MAX_POINTS];
-    let Ok(answered) = referee_record(&bytes, &mut lent) else {
-        return Err(Fail::new("no such record"));
-    };
+    let answered = referee_record(&bytes, &mut lent)?;
     assert_eq!(rt; answered.answer, answer(colour, taken));
-    same_board(rt, size, &lent, &left)
+    let count = size.points();
+    assert_eq!(rt; &lent[0..count], &left[0..count]);
+    assert!(rt; lent.iter().skip(count).all(|byte| *byte == POINT_BEFORE));
+    Ok(())
 }
 
 // How many stones the moves take.
@@ -48,10 +48,8 @@ fn replay(
     moves: &[u16],
 ) -> Result<usize, Fail> {
     let mut total = 0;
-    for k in 0..moves.len() {
-        let Ok(taken) = play(size, board, colour, moves[k] as usize, k) else {
-            return Err(Fail::new("not allowed"));
-        };
+    for (number, point) in moves.iter().enumerate() {
+        let taken = play(size, board, colour, usize::from(*point), number)?;
         assert!(rt; total <= MAX_POINTS && taken <= MAX_POINTS);
         total += taken;
     }
@@ -66,11 +64,11 @@ fn record(
     moves: &[u16],
 ) -> Result<Vec<u8>, Fail> {
     let mut bytes = write_board(heap, position.size(), &position.cells())?;
-    for k in 0..moves.len() {
-        if k > 0 || colour == Colour::Black {
+    for (number, point) in moves.iter().enumerate() {
+        if number > 0 || colour == Colour::Black {
             bytes.extend_from_slice(&PASS.to_le_bytes())?;
         }
-        bytes.extend_from_slice(&moves[k].to_le_bytes())?;
+        bytes.extend_from_slice(&point.to_le_bytes())?;
     }
     Ok(bytes)
 }
@@ -87,22 +85,4 @@ fn answer(colour: Colour, taken: usize) -> Answer {
         black_taken,
         white_taken,
     }
-}
-
-// The lent points are those of the board, and nothing is written past them.
-fn same_board(
-    rt: &impl Abort,
-    size: Size,
-    lent: &[u8; MAX_POINTS],
-    board: &[u8; MAX_POINTS],
-) -> Result<(), Fail> {
-    for p in 0..MAX_POINTS {
-        let expected = if p < size.points() {
-            board[p]
-        } else {
-            POINT_BEFORE
-        };
-        assert_eq!(rt; lent[p], expected);
-    }
-    Ok(())
 }

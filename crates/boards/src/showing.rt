@@ -2,7 +2,7 @@
 use crate::drawing::board;
 use crate::memory::{ENTRY_BEFORE, Lengths, Memory, unwritten_from};
 use crate::rows::takes;
-use crate::table::{COLOURS, known_boards};
+use crate::table::{COLOURS, KNOWN_BOARDS};
 use capture::showing::show;
 use chains::labels::{MAX_POINTS, NO_POINT};
 use chains::position::Position;
@@ -12,60 +12,55 @@ use std::process::Abort;
 use std::test::Fail;
 
 // A row is shown, which takes the stone. It has at most as many moves as the board has points, and nothing is written past it.
-fn taken(rt: &impl Abort, heap: Global, position: Position, point: usize) -> Result<(), Fail> {
+fn taken(
+    rt: &(impl Abort + Alloc<A = Global>),
+    position: Position,
+    point: usize,
+) -> Result<(), Fail> {
     let mut memory = Memory::new();
-    let Ok(count) = show(
+    let count = show(
         position,
         point,
         &mut memory.chains,
         &mut memory.rooms,
         &mut memory.moves,
-    ) else {
-        return Err(Fail::new("refused"));
-    };
+    )?;
     assert!(rt; count <= position.size().points() && count <= MAX_POINTS);
-    unwritten_from(rt, &memory.moves, count)?;
-    takes(rt, heap, position, point, &memory.moves[0..count])
+    unwritten_from(rt, &memory.moves, count);
+    takes(rt, position, point, &memory.moves[0..count])
 }
 
-fn refused(
-    rt: &impl Abort,
-    position: Position,
-    point: usize,
-    lent: Lengths,
-    expected: Refusal,
-) -> Result<(), Fail> {
+fn refused(rt: &impl Abort, position: Position, point: usize, lent: Lengths, expected: Refusal) {
     let mut memory = Memory::new();
     assert!(rt; lent.chains <= MAX_POINTS && lent.rooms <= MAX_POINTS && lent.moves <= MAX_POINTS);
-    match show(
+    let refused = show(
         position,
         point,
         &mut memory.chains[0..lent.chains],
         &mut memory.rooms[0..lent.rooms],
         &mut memory.moves[0..lent.moves],
-    ) {
-        Ok(_) => return Err(Fail::new("shown")),
-        Err(refusal) => assert_eq!(rt; refusal, expected),
-    }
-    memory.untouched(rt)
+    );
+    assert_eq!(rt; refused.err(), Some(expected));
+    memory.untouched(rt);
 }
 
 // Every point of a board, and the first number past it.
 fn each_point(
-    rt: &impl Abort,
-    heap: Global,
+    rt: &(impl Abort + Alloc<A = Global>),
     position: Position,
     marked: &[bool; MAX_POINTS],
 ) -> Result<(), Fail> {
     let count = position.size().points();
     let lent = Lengths::all(count);
-    for p in 0..count {
-        if position.at(p).is_none() {
-            refused(rt, position, p, lent, Refusal::NotShown(Untaken::NoStone))?;
-        } else if marked[p] {
-            refused(rt, position, p, lent, Refusal::NotShown(Untaken::Marked))?;
+    for (point, mark) in marked.iter().enumerate().take(count) {
+        if position.at(point).is_none() {
+            let expected = Refusal::NotShown(Untaken::NoStone);
+            refused(rt, position, point, lent, expected);
+        } else if *mark {
+            let expected = Refusal::NotShown(Untaken::Marked);
+            refused(rt, position, point, lent, expected);
         } else {
-            taken(rt, heap, position, p)?;
+            taken(rt, position, point)?;
         }
     }
     refused(
@@ -74,19 +69,15 @@ fn each_point(
         count,
         lent,
         Refusal::NotShown(Untaken::NoStone),
-    )
+    );
+    Ok(())
 }
 
 #[test]
 fn all_boards(rt: HostRuntime) -> Result<(), Fail> {
     for colour in COLOURS {
-        for known in known_boards() {
-            each_point(
-                &rt,
-                rt.alloc(),
-                known.board(&rt, colour)?,
-                &known.marks(&rt)?,
-            )?;
+        for known in KNOWN_BOARDS {
+            each_point(&rt, known.board(&rt, colour)?, &known.marks(&rt)?)?;
         }
     }
     Ok(())
@@ -94,9 +85,9 @@ fn all_boards(rt: HostRuntime) -> Result<(), Fail> {
 
 #[test]
 fn other_boards(rt: HostRuntime) -> Result<(), Fail> {
-    taken(&rt, rt.alloc(), board(&rt, ".X / .O")?, 1)?;
-    taken(&rt, rt.alloc(), board(&rt, ".O. / O.O / .X.")?, 1)?;
-    taken(&rt, rt.alloc(), board(&rt, "X / .")?, 0)
+    taken(&rt, board(&rt, ".X / .O")?, 1)?;
+    taken(&rt, board(&rt, ".O. / O.O / .X.")?, 1)?;
+    taken(&rt, board(&rt, "X / .")?, 0)
 }
 
 #[test]
@@ -159,7 +150,7 @@ fn refusals(rt: HostRuntime) -> Result<(), Fail> {
         ("X.", 2, all, Refusal::NotShown(Untaken::NoStone)),
     ];
     for (drawing, point, lent, expected) in cases {
-        refused(&rt, board(&rt, drawing)?, point, lent, expected)?;
+        refused(&rt, board(&rt, drawing)?, point, lent, expected);
     }
     Ok(())
 }

@@ -30,31 +30,23 @@ fn a_row_is_shown_and_the_board_is_lent(rt: HostRuntime) -> Result<(), Fail> {
     assert_eq!(rt; chains, [none, 1, 1, none, none, none, before]);
     assert_eq!(rt; rooms, [0, none, none, 3, 3, 3, before]);
     assert_eq!(rt; moves, [3, 0, before, before, before, before, before]);
-    takes(&rt, rt.alloc(), board(&rt, ".XX...")?, 2, &moves[0..2])
+    takes(&rt, board(&rt, ".XX...")?, 2, &moves[0..2])
 }
 
-fn refused(
-    rt: &impl Abort,
-    bytes: &[u8],
-    point: usize,
-    lent: Lengths,
-    expected: Refusal,
-) -> Result<(), Fail> {
+fn refused(rt: &impl Abort, bytes: &[u8], point: usize, lent: Lengths, expected: Refusal) {
     let mut memory = Memory::new();
     assert!(rt; lent.points <= MAX_POINTS && lent.chains <= MAX_POINTS);
     assert!(rt; lent.rooms <= MAX_POINTS && lent.moves <= MAX_POINTS);
-    match show_stone(
+    let refused = show_stone(
         bytes,
         point,
         &mut memory.points[0..lent.points],
         &mut memory.chains[0..lent.chains],
         &mut memory.rooms[0..lent.rooms],
         &mut memory.moves[0..lent.moves],
-    ) {
-        Ok(_) => return Err(Fail::new("shown")),
-        Err(refusal) => assert_eq!(rt; refusal, expected),
-    }
-    memory.untouched(rt)
+    );
+    assert_eq!(rt; refused.err(), Some(expected));
+    memory.untouched(rt);
 }
 
 // Whichever point is asked for.
@@ -62,7 +54,7 @@ fn refused(
 fn faulty_bytes_and_short_memory_are_refused_before_the_stone(rt: HostRuntime) -> Result<(), Fail> {
     for faulty in faulty_bytes() {
         for point in [0, 9] {
-            refused(&rt, faulty.bytes, point, faulty.lent, faulty.refusal)?;
+            refused(&rt, faulty.bytes, point, faulty.lent, faulty.refusal);
         }
     }
     Ok(())
@@ -79,7 +71,7 @@ fn no_stone_and_a_marked_stone_are_refused(rt: HostRuntime) -> Result<(), Fail> 
     ];
     for (point, why) in cases {
         let expected = Refusal::NotShown(why);
-        refused(&rt, b"\x05\x01.X.X.", point, Lengths::all(5), expected)?;
+        refused(&rt, b"\x05\x01.X.X.", point, Lengths::all(5), expected);
     }
     Ok(())
 }

@@ -1,21 +1,25 @@
 -- The chain that is taken next: one with at most one vital room, unless all stones are held by safe marks.
-use Rattle.std.proofs.Common.{◌≡◌, ℕ, ◌+◌, ◌<◌, ◌≤◌, true, List, length, get_or, take, Some, None, sym, refl, ◌∙◌, subst, inl, inr, arith}
-use Rattle.std.specs.List.{prefix_len}
-use Rattle.std.proofs.lemmas.Bool.{cases_eq, le-leb}
+use Rattle.std.proofs.Common.{◌≡◌, ℕ, zero, suc, ◌<◌, ◌≤◌, Bool, true, false, ◌&&◌, ltb, List, [], ◌∷◌, length, get_or, Some, None, Option, sym, refl, ap, ◌∙◌, subst, inl, inr, arith}
+use Rattle.std.specs.List.{find, range_with_len}
+use Rattle.std.proofs.lemmas.Bool.{cases_Bool, and_parts, ltb-true, ltb-false}
+use Rattle.std.proofs.lemmas.List.FromFn.{length-range_with_len, get_or-range_with_len}
 use Rattle.grid.specs.Graph.{Near, Graph}
 use Rattle.chains.specs.Board.{mine, Board, Joined}
 use Rattle.chains.specs.Labels.{ChainLabels}
+use Rattle.chains.specs.Computed.{is_state}
 use Rattle.chains.specs.Linked.{here}
-use Rattle.grid.specs.declared.size.Size.{Size}
 use Rattle.chains.specs.Sized.{count_of, near_of, seen}
-use Rattle.chains.specs.Views.{stone_byte, is_point, points_refusal, view}
+use Rattle.chains.specs.Views.{view}
 use Rattle.chains.specs.declared.colour.Colour.{Colour}
-use Rattle.chains.proofs.Cells.{leading_take}
 use Rattle.chains.proofs.Chain.{joined_last}
 use Rattle.chains.proofs.Reach.{linked_sym, linked_trans}
-use Rattle.chains.proofs.States.{state_is}
-use Rattle.chains.proofs.Views.{view_byte, byte_view, same_view}
+use Rattle.chains.proofs.States.{is_state_true, state_is}
+use Rattle.chains.proofs.Views.{view_byte}
+use Rattle.chains.specs.declared.position.Position.{Position}
 use Rattle.rooms.specs.Bits.{member, shared_below}
+use Rattle.rooms.specs.Regioned.{RegionsWritten}
+use Rattle.rooms.specs.Tables.{set_of}
+use Rattle.rooms.specs.declared.region_sets.Regions.{Regions}
 use Rattle.rooms.specs.Numbered.{RoomLabels, VitalRooms}
 use Rattle.rooms.specs.Regions.{Liberty, AllBeside, TwoRooms, FewRooms}
 use Rattle.rooms.specs.Striking.{VitalTo, TwoOpen}
@@ -23,14 +27,13 @@ use Rattle.rooms.proofs.All.{all_mine, all_safe}
 use Rattle.rooms.proofs.Numbered.{few_open, two_open}
 use Rattle.rooms.proofs.Regions.{beside_below}
 use Rattle.rooms.proofs.Rounds.{empty_clear}
-use Rattle.capture.specs.Target.{Surveyed, Aimed, Weak, NoneWeak, AllHeld}
+use Rattle.capture.specs.Target.{Surveyed, Aimed, AllHeld}
+use Rattle.capture.specs.Weak.{is_weak}
 use Rattle.capture.proofs.Choosing.{mine_stone}
 
 -- the label of a stone is a point of the board
-pub label_below : {n : ℕ} {near : Near} (cells : List ℕ) (colour : Colour) {chains : List ℕ} → ChainLabels n near (view n cells colour) chains → (p : ℕ) → p < n →
-    get_or cells p 0 ≡ stone_byte colour → get_or chains p 0 < n
-label_below {n} cells colour {chains} chained p below is =
-    (view_byte n cells colour mine (get_or chains p 0) mine_stone (joined_last (chained.joined mine p mine_stone (byte_view n cells colour mine p mine_stone below is)))).0
+pub label_below : {n : ℕ} {near : Near} (cells : List ℕ) (colour : Colour) {chains : List ℕ} → ChainLabels n near (view n cells colour) chains → (p : ℕ) → view n cells colour p ≡ mine → get_or chains p 0 < n
+label_below {n} cells colour {chains} chained p own = (view_byte n cells colour mine (get_or chains p 0) mine_stone (joined_last (chained.joined mine p mine_stone own))).0
 
 -- a chain with fewer than two vital rooms by number has at most one
 pub few_rooms : {n : ℕ} {near : Near} → Graph n near → {b : Board} {rooms vital : List ℕ} {c : ℕ} → RoomLabels n near b rooms → VitalRooms n near b rooms c vital → n ≤ 384 →
@@ -68,13 +71,13 @@ two_rooms {n} {near} g {b} {rooms} {vital} {c} labels v many = made (two_open vi
     }
 
 -- the chain of a stone that has fewer than two vital rooms by number
-pub aimed : {n : ℕ} {near : Near} → Graph n near → {cells chains rooms : List ℕ} {colour : Colour} {sets : ℕ → List ℕ} {c : ℕ} {words : List ℕ} → n ≤ 361 → Surveyed n near (view n cells colour) chains rooms sets → words ≡ sets c →
-    Weak n cells chains colour sets c → Aimed n near (view n cells colour) c chains rooms words
-aimed {n} {near} g {cells} {chains} {rooms} {colour} {sets} {c} {words} small survey is w =
+pub aimed : {n : ℕ} {near : Near} → Graph n near → (cells : List ℕ) {chains rooms : List ℕ} (colour : Colour) {sets : ℕ → List ℕ} {c : ℕ} {words : List ℕ} → n ≤ 361 → Surveyed n near (view n cells colour) chains rooms sets → words ≡ sets c →
+    (p : ℕ) → c ≡ get_or chains p 0 → is_weak (view n cells colour) chains sets p ≡ true → Aimed n near (view n cells colour) c chains rooms words
+aimed {n} {near} g cells {chains} {rooms} colour {sets} {c} {words} small survey is p label weak =
     record {
       below = (view_byte n cells colour mine c mine_stone stone).0;
       stone = stone;
-      few = few_rooms g survey.room_labels v (omega arith) w.few;
+      few = few_rooms g survey.room_labels v (omega arith) few;
       named = named;
       chain_labels = survey.chain_labels;
       room_labels = survey.room_labels;
@@ -84,69 +87,93 @@ aimed {n} {near} g {cells} {chains} {rooms} {colour} {sets} {c} {words} small su
     b : Board
     b = view n cells colour
 
-    p : ℕ
-    p = w.stone
+    parts : (is_state mine (b p) ≡ true) × (ltb (shared_below 384 (sets (get_or chains p 0)) (sets (get_or chains p 0))) 2 ≡ true)
+    parts = and_parts (is_state mine (b p)) (ltb (shared_below 384 (sets (get_or chains p 0)) (sets (get_or chains p 0))) 2) weak
 
     own : b p ≡ mine
-    own = byte_view n cells colour mine p mine_stone w.below w.is
+    own = is_state_true mine (b p) parts.0
+
+    few : shared_below 384 (sets c) (sets c) < 2
+    few = subst (λ (i : ℕ). shared_below 384 (sets i) (sets i) < 2) (sym label) (ltb-true (shared_below 384 (sets (get_or chains p 0)) (sets (get_or chains p 0))) 2 parts.1)
 
     joined : Joined near b mine p c
-    joined = subst (Joined near b mine p) (sym w.label) (survey.chain_labels.joined mine p mine_stone own)
+    joined = subst (Joined near b mine p) (sym label) (survey.chain_labels.joined mine p mine_stone own)
 
     stone : b c ≡ mine
     stone = joined_last joined
 
     named : get_or chains c 0 ≡ c
-    named = sym (survey.chain_labels.one_entry mine p c mine_stone joined) ∙ sym w.label
+    named = sym (survey.chain_labels.one_entry mine p c mine_stone joined) ∙ sym label
 
     v : VitalRooms n near b rooms c (sets c)
     v = subst (λ (i : ℕ). VitalRooms n near b rooms c (sets i)) named (survey.vital_rooms c stone)
 
 -- where no chain has fewer, all stones are held by safe marks
 pub all_held : {n : ℕ} {near : Near} → Graph n near → (cells : List ℕ) {chains rooms : List ℕ} (colour : Colour) {sets : ℕ → List ℕ} → Surveyed n near (view n cells colour) chains rooms sets →
-    NoneWeak n cells chains colour sets → AllHeld near (view n cells colour)
-all_held {n} {near} g cells {chains} {rooms} colour survey weak p m = (all_mine b, all_safe g b two, state_is mine (b p) m)
+    ((p : ℕ) → p < n → is_weak (view n cells colour) chains sets p ≡ false) → AllHeld near (view n cells colour)
+all_held {n} {near} g cells {chains} {rooms} colour {sets} survey none_weak p m = (all_mine b, all_safe g b two, state_is mine (b p) m)
   where
     b : Board
     b = view n cells colour
 
+    many : (q : ℕ) → b q ≡ mine → 2 ≤ shared_below 384 (sets (get_or chains q 0)) (sets (get_or chains q 0))
+    many q own =
+        let shared = shared_below 384 (sets (get_or chains q 0)) (sets (get_or chains q 0)) in
+        let not_few : ltb shared 2 ≡ false = sym (ap (λ (t : Bool). t && ltb shared 2) (state_is mine (b q) own)) ∙ none_weak q (view_byte n cells colour mine q mine_stone own).0 in
+        ltb-false shared 2 not_few
+
     two : (q : ℕ) → b q ≡ mine → TwoRooms near b q
-    two q own =
-        let at_q = view_byte n cells colour mine q mine_stone own in
-        two_rooms g survey.room_labels (survey.vital_rooms q own) (weak.many q at_q.0 at_q.1)
+    two q own = two_rooms g survey.room_labels (survey.vital_rooms q own) (many q own)
 
--- before the first stone
-pub none_weak_start : {cells chains : List ℕ} {colour : Colour} {sets : ℕ → List ℕ} → NoneWeak 0 cells chains colour sets
-none_weak_start = record { many = λ p l e. absurd (omega arith) }
+-- what is found passes, and where nothing is found nothing does
+pub found_passes : (t : ℕ → Bool) (xs : List ℕ) {p : ℕ} → Some p ≡ find t xs → t p ≡ true
+found_passes t [] e = let z : ◌≡◌ {A = ℕ} 0 1 = cc in absurd (omega arith)
+found_passes t (x ∷ xs) {p} e = elim (cases_Bool (t x)) [
+  | inl hit ↦
+      (let here : Some p ≡ Some x = e ∙ rw hit refl in
+      subst (λ (q : ℕ). t q ≡ true) (sym (ap (λ (o : Option ℕ). elim o [ Some q ↦ q | None ↦ 0 ]) here)) hit)
+  | inr miss ↦ found_passes t xs (e ∙ rw miss refl)
+]
 
--- a point more, whose chain has two vital rooms if a stone of the colour stands there
-pub none_weak_more : {k : ℕ} {cells chains : List ℕ} {colour : Colour} {sets : ℕ → List ℕ} → NoneWeak k cells chains colour sets →
-    (get_or cells k 0 ≡ stone_byte colour → 2 ≤ shared_below 384 (sets (get_or chains k 0)) (sets (get_or chains k 0))) → NoneWeak (k + 1) cells chains colour sets
-none_weak_more {k} {cells} {chains} {colour} {sets} s two = record {
-  many = λ p l e. elim (cases_eq p k) [
-    | inl same ↦
-        subst (λ (i : ℕ). 2 ≤ shared_below 384 (sets (get_or chains i 0)) (sets (get_or chains i 0))) (sym same) (two (subst (λ (i : ℕ). get_or cells i 0 ≡ stone_byte colour) same e))
-    | inr other ↦ s.many p (omega arith) e
-  ];
-}
+pub none_passes : (t : ℕ → Bool) (xs : List ℕ) → None ≡ find t xs → (k : ℕ) → k < length xs → t (get_or xs k 0) ≡ false
+none_passes t [] e k l = absurd (omega arith)
+none_passes t (x ∷ xs) e k l = elim (cases_Bool (t x)) [
+  | inl hit ↦ (let z : None ≡ Some x = e ∙ rw hit refl in cc)
+  | inr miss ↦ none_later t x xs k l miss (none_passes t xs (e ∙ rw miss refl))
+]
+  where
+    none_later : (t : ℕ → Bool) (x : ℕ) (xs : List ℕ) (k : ℕ) → k < length (x ∷ xs) → t x ≡ false → ((i : ℕ) → i < length xs → t (get_or xs i 0) ≡ false) → t (get_or (x ∷ xs) k 0) ≡ false
+    none_later t x xs zero l miss later = miss
+    none_later t x xs (suc k) l miss later = later k (omega arith)
 
--- all stones are seen
-pub none_weak_all : {n k : ℕ} {cells chains : List ℕ} {colour : Colour} {sets : ℕ → List ℕ} → n ≤ k → NoneWeak k cells chains colour sets → NoneWeak n cells chains colour sets
-none_weak_all l s = record { many = λ p below e. s.many p (omega arith) e }
+pub none_below : (t : ℕ → Bool) (wanted n : ℕ) → None ≡ find t (wanted ∷ range_with_len 0 n) → (p : ℕ) → p < n → t p ≡ false
+none_below t wanted n e p l =
+    let index : get_or (range_with_len 0 n) p 0 ≡ p = get_or-range_with_len 0 n p 0 l ∙ omega arith in
+    subst (λ (q : ℕ). t q ≡ false) index (none_passes t (wanted ∷ range_with_len 0 n) e (suc p) (omega (arith, length-range_with_len 0 n)))
 
--- cells that write points write a board
-pub points_written : (n : ℕ) (cells : List ℕ) → n ≤ length cells → ((p : ℕ) → p < n → is_point (get_or cells p 0) ≡ true) → points_refusal n cells ≡ None
-points_written n cells long good =
-    let front : n ≡ prefix_len is_point (take n cells) = leading_take is_point n cells n long (omega arith) good (λ l. absurd (omega arith)) in
-    rw (le-leb n (length cells) long, le-leb n (prefix_len is_point (take n cells)) (omega arith)) refl
+-- what the regions say of the board
+pub survey_of : (position : Position) (colour : Colour) {chains rooms chains_after rooms_after : List ℕ} {old r : Regions} → RegionsWritten position.size position.cells colour chains rooms chains_after rooms_after old r →
+    Surveyed (count_of position.size) (near_of position.size) (seen position.size position.cells colour) chains_after rooms_after (set_of r.vital)
+survey_of position colour said = record { chain_labels = said.regioned.chained colour; room_labels = said.regioned.roomed; vital_rooms = said.regioned.vital }
 
--- so they are not refused
-pub not_unwritten : (n : ℕ) (cells : List ℕ) (line : ℕ × ℕ) → n ≤ length cells → ((p : ℕ) → p < n → is_point (get_or cells p 0) ≡ true) → Some line ≡ points_refusal n cells → ⊥
-not_unwritten n cells line long good e = let w = e ∙ points_written n cells long good in let z : ◌≡◌ {A = ℕ} 0 1 = cc in omega arith
+-- the stone that is found has a weak chain, and is on the board
+pub found_weak : (position : Position) (colour : Colour) (chains : List ℕ) (sets : ℕ → List ℕ) (wanted : ℕ) {p : ℕ} →
+    Some p ≡ find (is_weak (seen position.size position.cells colour) chains sets) (wanted ∷ range_with_len 0 (count_of position.size)) → is_weak (seen position.size position.cells colour) chains sets p ≡ true
+found_weak position colour chains sets wanted found =
+    found_passes (is_weak (seen position.size position.cells colour) chains sets) (wanted ∷ range_with_len 0 (count_of position.size)) found
 
--- what is written of a position is written of the cells that it was read from
-pub surveyed_read : (s t : Size) (xs ys : List ℕ) (colour : Colour) {chains rooms : List ℕ} {sets : ℕ → List ℕ} → s ≡ t → take (count_of t) xs ≡ take (count_of t) ys →
-    Surveyed (count_of s) (near_of s) (seen s xs colour) chains rooms sets → Surveyed (count_of t) (near_of t) (seen t ys colour) chains rooms sets
-surveyed_read s t xs ys colour {chains} {rooms} {sets} e same h =
-    subst (λ (b : Board). Surveyed (count_of t) (near_of t) b chains rooms sets) (same_view (count_of t) xs ys colour same)
-    (subst (λ (u : Size). Surveyed (count_of u) (near_of u) (seen u xs colour) chains rooms sets) e h)
+-- so it is one of mine
+weak_mine : (b : Board) (chains : List ℕ) (sets : ℕ → List ℕ) (p : ℕ) → is_weak b chains sets p ≡ true → b p ≡ mine
+weak_mine b chains sets p weak = is_state_true mine (b p) (and_parts (is_state mine (b p)) (ltb (shared_below 384 (sets (get_or chains p 0)) (sets (get_or chains p 0))) 2) weak).0
+
+pub found_below : (position : Position) (colour : Colour) (chains : List ℕ) (sets : ℕ → List ℕ) (wanted : ℕ) {p : ℕ} →
+    Some p ≡ find (is_weak (seen position.size position.cells colour) chains sets) (wanted ∷ range_with_len 0 (count_of position.size)) → p < count_of position.size
+found_below position colour chains sets wanted {p} found =
+    (view_byte (count_of position.size) position.cells colour mine p mine_stone
+    (weak_mine (seen position.size position.cells colour) chains sets p (found_weak position colour chains sets wanted found))).0
+
+-- and so is the label of its chain
+pub label_of_weak : (position : Position) (colour : Colour) {chains : List ℕ} (sets : ℕ → List ℕ) (p : ℕ) → ChainLabels (count_of position.size) (near_of position.size) (seen position.size position.cells colour) chains →
+    is_weak (seen position.size position.cells colour) chains sets p ≡ true → get_or chains p 0 < count_of position.size
+label_of_weak position colour {chains} sets p labels weak =
+    label_below position.cells colour labels p (weak_mine (seen position.size position.cells colour) chains sets p weak)

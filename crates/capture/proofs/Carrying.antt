@@ -1,10 +1,9 @@
 -- The facts that a judgement carries, and what they say.
-use Rattle.std.proofs.Common.{◌≡◌, ℕ, Bool, true, false, List, get_or, None, refl, arith}
-use Rattle.std.proofs.lemmas.Bool.Decides.{nat_tests}
-use Rattle.grid.specs.Grid.{near}
+use Rattle.std.proofs.Common.{◌≡◌, ℕ, true, List, None, refl}
+use Rattle.std.proofs.Math.Logic.{∥∥₁_elim}
 use Rattle.grid.specs.declared.size.Size.{Size}
 use Rattle.grid.proofs.Square.{graph}
-use Rattle.chains.specs.Board.{mine, Board}
+use Rattle.chains.specs.Board.{Board}
 use Rattle.chains.specs.Breath.{stand_refusal}
 use Rattle.chains.specs.Sized.{count_of, near_of, seen}
 use Rattle.chains.specs.Stands.{Stands}
@@ -12,16 +11,11 @@ use Rattle.chains.specs.declared.colour.Colour.{Colour}
 use Rattle.chains.specs.declared.colour.Colour.TheVariants.{Black, White}
 use Rattle.chains.proofs.Breath.{not_refused_stand, first_breathless_turned}
 use Rattle.chains.proofs.Square.{stand_stands}
-use Rattle.chains.proofs.States.{is_state_true, state_is}
 use Rattle.chains.proofs.Views.{view_byte}
-use Rattle.play.specs.Played.{start, Stays}
+use Rattle.rooms.specs.Safe.{Marks}
 use Rattle.judge.specs.Promise.{Judges}
-use Rattle.judge.specs.Refused.{judge_refusal}
-use Rattle.capture.specs.Judged.{all_breathe, MarkedStay, StayingMarked}
-
--- a position that is judged can stand
-pub judged_breathe : (size : Size) (cells chains rooms : List ℕ) → judge_refusal size cells chains rooms ≡ None → all_breathe size cells ≡ true
-judged_breathe size cells chains rooms e = grind (arith, nat_tests)
+use Rattle.judge.proofs.Surveyed.{judges_prop}
+use Rattle.capture.specs.Judged.{all_breathe}
 
 -- a board on which every stone breathes can stand, as either side sees it
 pub breathe_stands : (size : Size) (cells : List ℕ) → all_breathe size cells ≡ true → (side : Colour) → Stands size.width size.height (seen size cells side)
@@ -31,16 +25,6 @@ breathe_stands size cells e side = stand_stands (not_refused_stand (graph size.w
     no_line Black = rw e refl
     no_line White = rw (first_breathless_turned (graph size.width size.height) cells Black, e) refl
 
--- marks that are the judgement carry it
-pub judges_stay : (w h : ℕ) (b : Board) (marked : List Bool) → Judges w h b (λ p. get_or marked p false) → MarkedStay (near w h) b marked
-unfolding Judges Stays
-judges_stay w h b marked j p e d = state_is mine (d.board p) (((j p).0 e).0 d.board d.comes)
-
-pub judges_marked : (w h : ℕ) (b : Board) (marked : List Bool) → Judges w h b (λ p. get_or marked p false) → StayingMarked (near w h) b marked
-unfolding Judges
-judges_marked w h b marked j p = (j p).1
-
--- and are known by it
-pub carried_judges : (w h : ℕ) (b : Board) (marked : List Bool) → MarkedStay (near w h) b marked → StayingMarked (near w h) b marked → Judges w h b (λ p. get_or marked p false)
-unfolding Judges Stays
-carried_judges w h b marked m s p = (λ e. (λ d comes. is_state_true mine (d p) (m p e (record { board = d; comes = comes })), is_state_true mine (b p) (m p e (record { board = b; comes = start }))), s p)
+-- a judgement has one proof, so a value that carries one gives it back
+pub carried_judges : (w h : ℕ) (b : Board) (s : Marks) → ∥ Judges w h b s ∥₁ → Judges w h b s
+carried_judges w h b s carried = ∥∥₁_elim carried (judges_prop w h b s) (λ j. j)

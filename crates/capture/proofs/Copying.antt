@@ -1,11 +1,13 @@
 -- Labels that were copied are labels.
-use Rattle.std.proofs.Common.{◌≡◌, ℕ, ◌<◌, ◌≤◌, ◌≢◌, List, get_or, drop, sym, ◌∙◌, subst, inl, inr, arith}
+use Rattle.std.proofs.Common.{◌≡◌, ℕ, ◌<◌, ◌≤◌, ◌≢◌, List, ◌++◌, length, get_or, take, drop, sym, ap, ◌∙◌, subst, inl, inr, arith}
+use Rattle.std.proofs.lemmas.List.{get_or_append_left, get_or-take, length-take-le}
+use Rattle.std.proofs.lemmas.Slice.{drop-append-drop}
 use Rattle.grid.specs.Graph.{Near, Graph}
 use Rattle.grid.specs.declared.size.Size.{Size}
 use Rattle.grid.proofs.Square.{graph}
 use Rattle.chains.specs.Board.{State, none, Board, Joined}
 use Rattle.chains.specs.Labels.{ChainLabels}
-use Rattle.chains.specs.Sized.{count_of, near_of, seen}
+use Rattle.chains.specs.Sized.{count_of, seen}
 use Rattle.chains.specs.Stands.{Stands}
 use Rattle.chains.specs.declared.colour.Colour.{Colour}
 use Rattle.chains.proofs.Chain.{joined_first, joined_last}
@@ -42,17 +44,26 @@ rooms_copied {n} {near} g {b} {xs} {ys} same l =
     reached : {y z : ℕ} → y < n → OneRoom near b y z → z < n
     reached below way = elim (linked_below g way) [ inl e ↦ subst (λ (i : ℕ). i < n) (sym e) below | inr h ↦ h ]
 
+-- the first k entries are written over
+front_copied : (own ys old : List ℕ) (k : ℕ) → k ≤ length own → ys ≡ take k own → (p : ℕ) → p < k → get_or (ys ++ drop k old) p 0 ≡ get_or own p 0
+front_copied own ys old k long e p l =
+    get_or_append_left ys (drop k old) 0 p (omega (arith, front_long)) ∙ ap (λ (xs : List ℕ). get_or xs p 0) e ∙ get_or-take k own p 0 l
+  where
+    front_long : length ys ≡ k
+    front_long = ap length e ∙ length-take-le k own long
+
+past_kept : (own ys old : List ℕ) (k : ℕ) → k ≤ length own → ys ≡ take k own → drop k (ys ++ drop k old) ≡ drop k old
+past_kept own ys old k long e = drop-append-drop k old ys k (omega arith) (ap length e ∙ length-take-le k own long)
+
 -- the labels of a position, copied into lent memory
-pub labels_copied : {size : Size} {cells : List ℕ} {colour : Colour} {chains rooms old_chains old_rooms new_chains new_rooms : List ℕ} (k : ℕ) → k ≡ count_of size →
-    ((side : Colour) → Stands size.width size.height (seen size cells side)) →
-    ((side : Colour) → ChainLabels (count_of size) (near_of size) (seen size cells side) chains) → RoomLabels (count_of size) (near_of size) (seen size cells colour) rooms →
-    ((p : ℕ) → p < k → get_or new_chains p 0 ≡ get_or chains p 0) → drop k new_chains ≡ drop k old_chains →
-    ((p : ℕ) → p < k → get_or new_rooms p 0 ≡ get_or rooms p 0) → drop k new_rooms ≡ drop k old_rooms →
-    LabelsWritten size cells colour old_chains old_rooms new_chains new_rooms
-labels_copied {size} {old_chains = old_chains} {old_rooms = old_rooms} {new_chains = new_chains} {new_rooms = new_rooms} k e stands chained roomed same_chains past_chains same_rooms past_rooms =
+pub labels_copied : {size : Size} {cells : List ℕ} {colour : Colour} {lent_chains lent_rooms own_chains own_rooms : List ℕ} (k : ℕ) → k ≡ count_of size → k ≤ length own_chains → k ≤ length own_rooms →
+    ((side : Colour) → Stands size.width size.height (seen size cells side)) → LabelsWritten size cells colour lent_chains lent_rooms own_chains own_rooms →
+    (chains rooms old_chains old_rooms : List ℕ) → chains ≡ take k own_chains → rooms ≡ take k own_rooms →
+    LabelsWritten size cells colour old_chains old_rooms (chains ++ drop k old_chains) (rooms ++ drop k old_rooms)
+labels_copied {size} {own_chains = own_chains} {own_rooms = own_rooms} k e chains_long rooms_long stands own chains rooms old_chains old_rooms chains_are rooms_are =
     record {
-      chained = λ side. chains_copied (stands side).inside (λ p l. same_chains p (omega arith)) (chained side);
-      roomed = rooms_copied (graph size.width size.height) (λ p l. same_rooms p (omega arith)) roomed;
-      chains_past = subst (λ (n : ℕ). drop n new_chains ≡ drop n old_chains) e past_chains;
-      rooms_past = subst (λ (n : ℕ). drop n new_rooms ≡ drop n old_rooms) e past_rooms;
+      chained = λ side. chains_copied (stands side).inside (λ p l. front_copied own_chains chains old_chains k chains_long chains_are p (omega arith)) (own.chained side);
+      roomed = rooms_copied (graph size.width size.height) (λ p l. front_copied own_rooms rooms old_rooms k rooms_long rooms_are p (omega arith)) own.roomed;
+      chains_past = subst (λ (n : ℕ). drop n (chains ++ drop k old_chains) ≡ drop n old_chains) e (past_kept own_chains chains old_chains k chains_long chains_are);
+      rooms_past = subst (λ (n : ℕ). drop n (rooms ++ drop k old_rooms) ≡ drop n old_rooms) e (past_kept own_rooms rooms old_rooms k rooms_long rooms_are);
     }

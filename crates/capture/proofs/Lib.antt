@@ -1,6 +1,7 @@
 pub mod Carrying
 pub mod Choosing
 pub mod Rows
+pub mod Shown
 pub mod Seeking
 pub mod Aiming
 pub mod Phases

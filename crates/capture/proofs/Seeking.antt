@@ -1,49 +1,41 @@
 -- Looking over neighbours for a label, and over the points for the liberty to be played next.
-use Rattle.std.proofs.Common.{◌≡◌, ℕ, ◌+◌, ◌<◌, ◌≤◌, true, List, get_or, Some, None, Option, sym, ◌∙◌, subst, inl, inr, arith}
-use Rattle.std.proofs.lemmas.Bool.{cases_eq}
+use Rattle.std.proofs.Common.{◌≡◌, ℕ, ◌+◌, ◌<◌, Bool, true, false, eqb, ltb, List, get_or, Some, None, Option, sym, ap, ◌∙◌, subst, inl, inr, arith}
+use Rattle.std.specs.List.{list_any, Contains}
+use Rattle.std.proofs.lemmas.Bool.{cases_Bool, cases_eq, and_parts, and_from, both_ways, eqb-true, eq-eqb, lt-ltb}
+use Rattle.std.proofs.lemmas.List.Folds.{Any-from_list_any, list_any_at}
 use Rattle.grid.specs.Graph.{Near}
-use Rattle.grid.specs.Grid.{near}
-use Rattle.grid.specs.Neighbours.{slots, hand}
-use Rattle.grid.proofs.Square.{all_handed}
+use Rattle.grid.specs.Neighbours.{neighbours_of}
+use Rattle.grid.specs.declared.size.Size.{Size}
+use Rattle.grid.proofs.Handed.{beside_it, all_listed}
+use Rattle.chains.specs.Sized.{near_of}
 use Rattle.rooms.specs.Bits.{member}
-use Rattle.capture.specs.Target.{Touch, OpenTouch, NextOrNone}
+use Rattle.capture.specs.Target.{has_label, Touch, OpenTouch, NextOrNone}
 
--- the neighbour with the number has not the label
-abbrev pub Unlabelled : List ℕ → ℕ → Option ℕ → Type 0
-Unlabelled chains chain None = Unit {0}
-Unlabelled chains chain (Some q) = get_or chains q 0 ≡ chain → ⊥
+-- whether some element passes, by the elements
+some_passes : (t : ℕ → Bool) (xs : List ℕ) → list_any t xs ≡ true → (q : ℕ) × Contains xs q × (t q ≡ true)
+some_passes t xs e = let (k, q, below, at_k, h) = Any-from_list_any t xs e in (q, (k, below, at_k), h)
 
--- no neighbour with a number below k has it
-pub record Untouched (w h : ℕ) (chains : List ℕ) (chain p k : ℕ) : Type 0 where
-  pub below : (j : ℕ) → j < k → Unlabelled chains chain (hand w h p j)
+none_passes : (t : ℕ → Bool) (xs : List ℕ) (q : ℕ) → list_any t xs ≡ false → Contains xs q → t q ≡ false
+none_passes t xs q e (k, below, at_k) = elim (cases_Bool (t q)) [
+  | inl hit ↦ absurd (both_ways (list_any t xs) e (list_any_at t xs k q below (ap t at_k ∙ hit)))
+  | inr miss ↦ miss
+]
 
-pub untouched_start : {w h : ℕ} {chains : List ℕ} {chain p : ℕ} → Untouched w h chains chain p 0
-untouched_start = record { below = λ j l. absurd (omega arith) }
-
--- one number more
-pub untouched_more : {w h : ℕ} {chains : List ℕ} {chain p k : ℕ} → Untouched w h chains chain p k → Unlabelled chains chain (hand w h p k) → Untouched w h chains chain p (k + 1)
-untouched_more {w} {h} {chains} {chain} {p} {k} u here =
+-- beside a stone with the label, or beside none
+pub touch_found : (size : Size) {chains : List ℕ} {chain : ℕ} (p : ℕ) → list_any (has_label chains chain) (neighbours_of size.width size.height p) ≡ true → Touch (near_of size) chains chain p
+touch_found size {chains} {chain} p e =
+    let (q, c, h) = some_passes (has_label chains chain) (neighbours_of size.width size.height p) e in
     record {
-      below = λ j l. elim (cases_eq j k) [
-        | inl same ↦ subst (λ (i : ℕ). Unlabelled chains chain (hand w h p i)) (sym same) here
-        | inr other ↦ u.below j (omega arith)
-      ];
+      stone = q;
+      next = (beside_it size.width size.height p q c).0;
+      label = eqb-true (get_or chains q 0) chain (and_parts (ltb q 361) (eqb (get_or chains q 0) chain) h).1;
     }
 
--- no neighbour has that number
-pub untouched_none : {w h : ℕ} {chains : List ℕ} {chain p k : ℕ} {r : Option ℕ} → Untouched w h chains chain p k → r ≡ hand w h p k → r ≡ None → Untouched w h chains chain p (k + 1)
-untouched_none {chains = chains} {chain = chain} u e is = untouched_more u (subst (Unlabelled chains chain) (sym is ∙ e) tt)
-
--- the neighbour with that number has another label
-pub untouched_other : {w h : ℕ} {chains : List ℕ} {chain p k : ℕ} {r : Option ℕ} (q : ℕ) → Untouched w h chains chain p k → r ≡ hand w h p k → r ≡ Some q → (get_or chains q 0 ≡ chain → ⊥) →
-    Untouched w h chains chain p (k + 1)
-untouched_other {chains = chains} {chain = chain} q u e is apart = untouched_more u (subst (Unlabelled chains chain) (sym is ∙ e) apart)
-
--- all numbers of the neighbours are seen
-pub untouched_all : {w h : ℕ} {chains : List ℕ} {chain p k : ℕ} → Untouched w h chains chain p k → (r : ℕ) → r ≡ slots w h p → r ≤ k → Touch (near w h) chains chain p → ⊥
-untouched_all {w} {h} {chains} {chain} {p} {k} u r e l t =
-    let (j, below, is) = all_handed w h p r e t.stone t.next in
-    (let f : Unlabelled chains chain (Some t.stone) = subst (Unlabelled chains chain) is (u.below j (omega arith)) in f t.label)
+pub touch_none : (size : Size) {chains : List ℕ} {chain : ℕ} (p : ℕ) → list_any (has_label chains chain) (neighbours_of size.width size.height p) ≡ false → Touch (near_of size) chains chain p → ⊥
+touch_none size {chains} {chain} p e t =
+    let below = (beside_it size.width size.height p t.stone (all_listed size.width size.height p t.stone t.next)).1 in
+    both_ways (has_label chains chain t.stone) (none_passes (has_label chains chain) (neighbours_of size.width size.height p) t.stone e (all_listed size.width size.height p t.stone t.next))
+    (and_from (ltb t.stone 361) (eqb (get_or chains t.stone 0) chain) (lt-ltb t.stone 361 (omega (arith, below, size.few.1))) (eq-eqb (get_or chains t.stone 0) chain t.label))
 
 -- the last liberty so far
 abbrev pub Last : Near → List ℕ → List ℕ → ℕ → ℕ → Option ℕ → Type 0

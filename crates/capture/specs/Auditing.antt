@@ -1,5 +1,5 @@
 -- Auditing marks that come from elsewhere: why not, and what each verdict says. Assumes nothing: these are definitions.
-use Rattle.std.specs.Prelude.{◌≡◌, ℕ, ◌<◌, Bool, true, false, cond, not, List, length, Some, None, Option, ◌==◌, nat_le, slice_index, slice_index_or}
+use Rattle.std.specs.Prelude.{◌≡◌, ℕ, ◌<◌, Bool, true, false, cond, not, List, length, Some, None, Option, ◌==◌, nat_le, slice_index}
 use Rattle.std.specs.List.{prefix_len}
 use Rattle.grid.specs.Grid.{points, near}
 use Rattle.grid.specs.Refusals.{unless}
@@ -32,6 +32,10 @@ is_mark byte = nat_le byte 1
 -- the points whose byte is 1
 abbrev pub marked_by : List ℕ → Marks
 marked_by marks p = slice_index marks p == 1
+
+-- whether a byte is not the mark that was judged
+abbrev pub is_wrong : ℕ × Bool → Bool
+is_wrong (byte, judged) = cond (byte == 1) (not judged) judged
 
 -- why marks are not audited: the lines on memory and board, then a colour that is none, a count of bytes that is not that of the points, and the first byte that is no mark
 abbrev pub audit_refusal : Size → List ℕ → ℕ → List ℕ → ℕ → ℕ → ℕ → Option (ℕ × ℕ)
@@ -95,14 +99,3 @@ pub record Audited (size : Size) (cells : List ℕ) (number : ℕ) (marks old_ch
   pub no_line : audit_refusal size cells number marks (length old_chains) (length old_rooms) (length old_moves) ≡ None
   pub verdict : VerdictExact size.width size.height (seen size cells colour) (marked_by marks) old_moves moves v
   pub labels : LabelsWritten size cells colour old_chains old_rooms chains rooms
-
--- the first point, of those that have a byte, on which the marks are not those of the judged entries
-pub record FirstWrong (marks : List ℕ) (judged : List Bool) (p : ℕ) : Type 0 where
-  pub below : p < length marks
-  pub before : (q : ℕ) → q < p → marked_by marks q ≡ slice_index_or judged q false
-  pub wrong : marked_by marks p ≡ not (slice_index_or judged p false)
-
--- or there is none
-abbrev pub WrongOrNone : List ℕ → List Bool → Option ℕ → Type 0
-WrongOrNone marks judged None = (q : ℕ) → q < length marks → marked_by marks q ≡ slice_index_or judged q false
-WrongOrNone marks judged (Some p) = FirstWrong marks judged p

@@ -1,16 +1,14 @@
 -- A position with the marks of one colour: what they are, and why no row is shown. Assumes nothing: these are definitions.
-use Rattle.std.specs.Prelude.{◌≡◌, ℕ, ◌≤◌, Bool, true, false, not, List, length, get_or, None, Option, nat_le, slice_index_or}
-use Rattle.grid.specs.Graph.{Near}
+use Rattle.std.specs.Prelude.{◌≡◌, ℕ, ◌≤◌, Bool, false, not, List, length, get_or, None, Option, nat_le, slice_index_or}
 use Rattle.grid.specs.Refusals.{unless}
 use Rattle.grid.specs.declared.size.Size.{Size}
-use Rattle.chains.specs.Board.{mine, Board}
+use Rattle.chains.specs.Board.{mine}
 use Rattle.chains.specs.Breath.{first_breathless}
 use Rattle.chains.specs.Computed.{is_state}
 use Rattle.chains.specs.Sized.{count_of, near_of, seen}
 use Rattle.chains.specs.declared.colour.Colour.{Colour}
 use Rattle.chains.specs.declared.colour.Colour.TheVariants.{Black}
 use Rattle.chains.specs.declared.position.Position.{Position}
-use Rattle.play.specs.Played.{Comes, Stays}
 use Rattle.judge.specs.Promise.{Judges}
 use Rattle.judge.specs.Refused.{judge_refusal}
 use Rattle.judge.specs.declared.judgement.Marks.{Marks}
@@ -19,19 +17,6 @@ use Rattle.capture.specs.Showing.{LabelsWritten}
 -- no stone is the first without a liberty: the board can stand
 abbrev pub all_breathe : Size → List ℕ → Bool
 all_breathe size cells = nat_le (count_of size) (first_breathless (count_of size) (near_of size) (seen size cells Black))
-
--- a board that the other side can come to
-pub record ToCome (near : Near) (b : Board) : Type 0 where
-  pub board : Board
-  pub comes : Comes near b board
-
--- the judgement once more, as facts that a value can carry: at a marked point there is a stone of mine on every board to come
-abbrev pub MarkedStay : Near → Board → List Bool → Type 0
-MarkedStay near b marked = (p : ℕ) → slice_index_or marked p false ≡ true → (d : ToCome near b) → is_state mine (d.board p) ≡ true
-
--- and a stone of mine that stays is marked
-abbrev pub StayingMarked : Near → Board → List Bool → Type 0
-StayingMarked near b marked = (p : ℕ) → Stays near b p → b p ≡ mine → slice_index_or marked p false ≡ true
 
 -- no line of the list applies: the marks are the judgement of that colour and none lies past the board, and the labels are written
 pub record MarksMade (position : Position) (colour : Colour) (old_chains old_rooms chains rooms : List ℕ) (marks : Marks) : Type 0 where

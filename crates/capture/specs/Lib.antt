@@ -4,3 +4,4 @@ pub mod Row
 pub mod Showing
 pub mod Statements
 pub mod Target
+pub mod Weak

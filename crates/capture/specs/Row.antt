@@ -1,36 +1,38 @@
 -- A row of moves while it is written, and what the board has come to. Assumes nothing: these are definitions.
-use Rattle.std.specs.Prelude.{◌≡◌, ℕ, ◌<◌, ◌≤◌, Bool, true, ◌&&◌, List, length, take, drop, ◌≢◌, slice_index}
+use Rattle.std.specs.Prelude.{◌≡◌, ℕ, ◌<◌, ◌≤◌, Bool, true, ◌&&◌, List, take, drop, ◌≢◌}
 use Rattle.grid.specs.Graph.{Near}
-use Rattle.grid.specs.Grid.{points, near}
+use Rattle.grid.specs.Grid.{points}
 use Rattle.chains.specs.Board.{none, mine, Board}
 use Rattle.chains.specs.Computed.{is_state, count}
+use Rattle.chains.specs.Sized.{count_of, near_of, seen}
 use Rattle.chains.specs.Stands.{Stands}
-use Rattle.chains.specs.Views.{is_point, view}
-use Rattle.chains.specs.declared.colour.Colour.{Colour}
 use Rattle.play.specs.Played.{Plays, Inside}
 use Rattle.rooms.specs.Safe.{Marks, Safe}
 use Rattle.judge.specs.Frame.{Frame}
 use Rattle.judge.specs.Promise.{Shows}
 use Rattle.capture.specs.Target.{Aimed}
+use Rattle.capture.specs.declared.capturing.Row.{Row}
 use Rattle.capture.specs.declared.target.Target.{Target}
 
--- the first k entries are moves on the board, played from board b one after the other while the side of that colour passes; they have led to the cells, and past them the entries are those that were lent
-pub record SoFar (w h : ℕ) (colour : Colour) (b : Board) (lent cells moves : List ℕ) (k : ℕ) : Type 0 where
-  pub good : (p : ℕ) → p < points w h → is_point (slice_index cells p) ≡ true
-  pub stands : Stands w h (view (points w h) cells colour)
-  pub plays : Plays (near w h) b (take k moves) (view (points w h) cells colour)
-  pub inside : Inside (points w h) (take k moves)
-  pub fits : k ≤ points w h
-  pub long : points w h ≤ length moves
-  pub past : drop k moves ≡ drop k lent
+-- the board that the row has led to, as the side sees it whose stones are taken
+abbrev pub board_of : Row → Board
+board_of row = seen row.position.size row.position.cells row.colour
 
--- from some board, with some lent memory
-abbrev pub SomeRow : ℕ → ℕ → Colour → List ℕ → List ℕ → ℕ → Type 0
-SomeRow w h colour cells moves k = (b : Board) × ((lent : List ℕ) × SoFar w h colour b lent cells moves k)
+-- the moves so far are on the board, they were played from board b one after the other while that side passes, and they have led to the row's board
+pub record SoFar (b : Board) (row : Row) : Type 0 where
+  pub stands : Stands row.position.size.width row.position.size.height (board_of row)
+  pub plays : Plays (near_of row.position.size) b (take row.played row.moves) (board_of row)
+  pub inside : Inside (count_of row.position.size) (take row.played row.moves)
+  pub fits : row.played ≤ count_of row.position.size
 
--- whatever the row began with, it goes on to these cells, entries and length
-abbrev pub GoesOnTo : ℕ → ℕ → Colour → List ℕ → List ℕ → ℕ → List ℕ → List ℕ → ℕ → Type 0
-GoesOnTo w h colour cells moves k cells' moves' k' = (b : Board) (lent : List ℕ) → SoFar w h colour b lent cells moves k → SoFar w h colour b lent cells' moves' k'
+-- from some board
+abbrev pub SomeRow : Row → Type 0
+SomeRow row = (b : Board) × SoFar b row
+
+-- whatever board the row began with, it goes on to this one, on a board of the same size
+pub record RowGoesOn (row later : Row) : Type 0 where
+  pub sized : later.position.size ≡ row.position.size
+  pub so_far : (b : Board) → SoFar b row → SoFar b later
 
 -- the chain of c, which is mine on board b, is taken on board d, and only its liberties were played
 pub record Captured (n : ℕ) (near : Near) (b : Board) (c : ℕ) (d : Board) : Type 0 where
@@ -38,6 +40,14 @@ pub record Captured (n : ℕ) (near : Near) (b : Board) (c : ℕ) (d : Board) : 
   pub was : b c ≡ mine
   pub frame : Frame near b c d
   pub gone : d c ≡ none
+
+-- so it is from one board of the row to a later one
+abbrev pub RowCaptures : ℕ → Row → Row → Type 0
+RowCaptures c row later = Captured (count_of row.position.size) (near_of row.position.size) (board_of row) c (board_of later)
+
+-- some chain is taken
+abbrev pub SomeCaptured : Row → Row → Type 0
+SomeCaptured row later = (c : ℕ) × RowCaptures c row later
 
 -- no safe marks hold the stone at p
 abbrev pub Unheld : Near → Board → ℕ → Type 0
@@ -47,6 +57,10 @@ Unheld near b p = (s : Marks) → Safe near b s → s p ≢ true
 pub record Phase (n : ℕ) (near : Near) (b : Board) (t : Target) (d : Board) : Type 0 where
   pub aimed : Aimed n near b t.chain t.chains t.rooms t.vital.words
   pub frame : Frame near b t.chain d
+
+-- the row's board is such a one
+abbrev pub InPhase : Board → Target → Row → Type 0
+InPhase b t row = Phase (count_of row.position.size) (near_of row.position.size) b t (board_of row)
 
 -- whether a point is empty on both boards
 abbrev pub empty_both : Board → Board → ℕ → Bool
@@ -58,18 +72,14 @@ pub record Nearer (n : ℕ) (near : Near) (b : Board) (t : Target) (d e : Board)
   pub fewer : count (empty_both b e) n < count (empty_both b d) n
 
 -- whatever the board was on which the chain was chosen
-abbrev pub ComesNearer : ℕ → Near → Target → Board → Board → Type 0
-ComesNearer n near t d e = (b : Board) → Phase n near b t d → Nearer n near b t d e
+abbrev pub ComesNearer : Target → Row → Row → Type 0
+ComesNearer t row later = (b : Board) → InPhase b t row → Nearer (count_of row.position.size) (near_of row.position.size) b t (board_of row) (board_of later)
 
--- a stone of mine that no safe marks hold
-pub record SomeUnheld (near : Near) (b : Board) : Type 0 where
+-- a stone is on the row's board that no safe marks hold
+pub record SomeUnheld (row : Row) : Type 0 where
   pub point : ℕ
-  pub stone : b point ≡ mine
-  pub unheld : Unheld near b point
-
--- some chain of mine is taken
-abbrev pub SomeCaptured : ℕ → Near → Board → Board → Type 0
-SomeCaptured n near b d = (c : ℕ) × Captured n near b c d
+  pub stone : board_of row point ≡ mine
+  pub unheld : Unheld (near_of row.position.size) (board_of row) point
 
 -- the first k entries are a row of moves on the board that takes the stone at p, and past them the entries are those that were lent
 pub record RowShown (w h : ℕ) (b : Board) (p : ℕ) (lent moves : List ℕ) (k : ℕ) : Type 0 where

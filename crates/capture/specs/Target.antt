@@ -1,11 +1,10 @@
 -- The chain that is taken next, and which of its liberties is played next. Assumes nothing: these are definitions.
-use Rattle.std.specs.Prelude.{◌≡◌, ℕ, ◌<◌, ◌≤◌, true, false, ◌⊎◌, List, Some, None, Option, slice_index, slice_index_or}
+use Rattle.std.specs.Prelude.{◌≡◌, ℕ, ◌<◌, Bool, true, false, ◌&&◌, ◌⊎◌, List, Some, None, Option, ◌==◌, nat_lt, slice_index, slice_index_or}
 use Rattle.grid.specs.Graph.{Near}
 use Rattle.chains.specs.Board.{mine, Board}
 use Rattle.chains.specs.Labels.{ChainLabels}
-use Rattle.chains.specs.Views.{stone_byte, is_stone}
-use Rattle.chains.specs.declared.colour.Colour.{Colour}
-use Rattle.rooms.specs.Bits.{member, shared_below}
+use Rattle.chains.specs.Views.{is_stone}
+use Rattle.rooms.specs.Bits.{member}
 use Rattle.rooms.specs.Numbered.{RoomLabels, VitalRooms}
 use Rattle.rooms.specs.Regions.{FewRooms}
 use Rattle.rooms.specs.Safe.{Marks, Safe}
@@ -26,6 +25,10 @@ pub record Aimed (n : ℕ) (near : Near) (b : Board) (chain : ℕ) (chains rooms
   pub chain_labels : ChainLabels n near b chains
   pub room_labels : RoomLabels n near b rooms
   pub vital_rooms : VitalRooms n near b rooms chain vital
+
+-- whether the point had the label when the chains were labelled
+abbrev pub has_label : List ℕ → ℕ → ℕ → Bool
+has_label chains chain q = nat_lt q 361 && slice_index chains q == chain
 
 -- the point is beside a stone that had the label when the chains were labelled
 pub record Touch (near : Near) (chains : List ℕ) (chain p : ℕ) : Type 0 where
@@ -48,23 +51,6 @@ pub record NextLiberty (n : ℕ) (near : Near) (cells chains rooms vital : List 
 abbrev pub NextOrNone : ℕ → Near → List ℕ → List ℕ → List ℕ → List ℕ → ℕ → Option ℕ → Type 0
 NextOrNone n near cells chains rooms vital chain None = (z : ℕ) → z < n → OpenTouch near cells chains chain z → ⊥
 NextOrNone n near cells chains rooms vital chain (Some p) = NextLiberty n near cells chains rooms vital chain p
-
--- a chain of the colour whose set of vital rooms has fewer than two
-pub record Weak (n : ℕ) (cells chains : List ℕ) (colour : Colour) (sets : ℕ → List ℕ) (c : ℕ) : Type 0 where
-  pub stone : ℕ
-  pub below : stone < n
-  pub is : slice_index_or cells stone 0 ≡ stone_byte colour
-  pub label : c ≡ slice_index chains stone
-  pub few : shared_below 384 (sets c) (sets c) < 2
-
--- no chain of the colour, of the stones below k, is one
-pub record NoneWeak (k : ℕ) (cells chains : List ℕ) (colour : Colour) (sets : ℕ → List ℕ) : Type 0 where
-  pub many : (p : ℕ) → p < k → slice_index cells p ≡ stone_byte colour → 2 ≤ shared_below 384 (sets (slice_index chains p)) (sets (slice_index chains p))
-
--- a chain of that kind, or that there is none
-abbrev pub WeakOrNone : ℕ → List ℕ → List ℕ → Colour → (ℕ → List ℕ) → Option ℕ → Type 0
-WeakOrNone n cells chains colour sets None = NoneWeak n cells chains colour sets
-WeakOrNone n cells chains colour sets (Some c) = Weak n cells chains colour sets c
 
 -- safe marks hold each stone of mine
 abbrev pub AllHeld : Near → Board → Type 0

@@ -4,12 +4,12 @@ ghost use Rattle.std.specs.Prelude.{◌≡◌, ◌≤◌, true, false, length, S
 ghost use Rattle.grid.specs.Refusals.{listed};
 ghost use Rattle.chains.specs.Board.{mine};
 ghost use Rattle.chains.specs.Computed.{is_state};
-ghost use Rattle.chains.specs.Sized.{count_of, near_of, seen};
+ghost use Rattle.chains.specs.Sized.{count_of, seen};
+ghost use Rattle.judge.specs.Promise.{Judges};
 ghost use Rattle.judge.specs.Refused.{judge_refusal};
-ghost use Rattle.capture.specs.Judged.{all_breathe, MarkedStay, StayingMarked, MarksMade, row_refusal};
+ghost use Rattle.capture.specs.Judged.{all_breathe, MarksMade, row_refusal};
 ghost use Rattle.capture.specs.Row.{RowShown};
 
-use crate::audit::is_own;
 use crate::capturing::write_row;
 use chains::colour::Colour;
 use chains::position::Position;
@@ -24,29 +24,12 @@ pub struct Judgement {
     colour: Colour,
     marks: Marks,
     ghost stands: { all_breathe position.size position.cells ≡ true },
-    ghost sound: { MarkedStay (near_of position.size) (seen position.size position.cells colour) marks.marked },
-    ghost complete: { StayingMarked (near_of position.size) (seen position.size position.cells colour) marks.marked },
+    ghost right: { ∥ Judges position.size.width position.size.height (seen position.size position.cells colour) (λ p. slice_index_or marks.marked p false) ∥₁ },
 }
 
 impl Judgement {
     /// Judges the stones of one colour, and writes the first points of the chains and of that side's rooms.
     pub fn new(
-        position: Position,
-        colour: Colour,
-        chains: &mut [u16],
-        rooms: &mut [u16],
-    ) -> Result<Judgement, Refusal>
-        ensures { elim result [
-          | Ok judgement ↦ (judgement.position ≡ position) × (judgement.colour ≡ colour)
-              × MarksMade position colour chains.old rooms.old chains.new rooms.new judgement.marks
-          | Err e ↦ (Some (listed e) ≡ judge_refusal position.size position.cells chains.old rooms.old)
-              × (chains.new ≡ chains.old) × (rooms.new ≡ rooms.old)
-        ] }
-    {
-        Judgement::judged(position, colour, chains, rooms)
-    }
-
-    fn judged(
         position: Position,
         colour: Colour,
         chains: &mut [u16],
@@ -94,7 +77,7 @@ impl Judgement {
         if moves.len() < self.position.size().points() {
             return Err(Refusal::TooShort(Lent::Moves));
         }
-        if !is_own(self.position, self.colour, point) {
+        if self.position.at(point) != Some(self.colour) {
             return Err(Refusal::NotShown(Untaken::NoStone));
         }
         if self.marks.has(point) {

@@ -6,5 +6,6 @@ pub mod audit;
 mod capturing;
 pub mod judgement;
 pub mod showing;
+mod survey;
 mod target;
 pub mod theorems;

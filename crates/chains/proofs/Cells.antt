@@ -1,8 +1,28 @@
--- The cells of a position: copied from bytes, and the longest front of bytes that write points.
-use Rattle.std.proofs.Common.{◌≡◌, ℕ, zero, suc, ◌+◌, ◌<◌, ◌≤◌, Bool, true, false, List, [], ◌∷◌, length, get_or, take, set, replicate, sym, refl, ◌∙◌, subst, inl, inr, arith}
+-- The cells of a position: the first bytes, and empty points after them; and the longest front of bytes that write points.
+use Rattle.std.proofs.Common.{◌≡◌, ℕ, zero, suc, ◌+◌, ◌-◌, ◌<◌, ◌≤◌, Bool, true, false, List, [], ◌∷◌, ◌++◌, length, get_or, take, drop, replicate, sym, refl, ◌∙◌, arith}
 use Rattle.std.specs.List.{prefix_len}
-use Rattle.std.proofs.lemmas.Bool.{cases_eq}
-use Rattle.std.proofs.lemmas.List.{get_or-set_same, get_or-set_other, length-set, ext_get_or, length-take-le, get_or-take, get_or-replicate, length-replicate}
+use Rattle.std.proofs.lemmas.List.Sums.{prefix_len-le-length}
+use Rattle.std.proofs.lemmas.List.{get_or_append_left, get_or-append_right, get_or-drop, get_or-take, get_or-replicate, length-take-le, take-append-le, take_all}
+
+abbrev pub on_empty : ℕ → List ℕ → List ℕ
+on_empty n bytes = take n bytes ++ drop n (replicate 361 46)
+
+pub cell_of : (n p : ℕ) (bytes : List ℕ) → n ≤ length bytes → p < n → get_or (on_empty n bytes) p 0 ≡ get_or bytes p 0
+cell_of n p bytes long l =
+    get_or_append_left (take n bytes) (drop n (replicate 361 46)) 0 p (omega (arith, length-take-le n bytes long))
+    ∙ get_or-take n bytes p 0 l
+
+pub empty_past : (n p : ℕ) (bytes : List ℕ) → n ≤ length bytes → n ≤ p → p < 361 → get_or (on_empty n bytes) p 0 ≡ 46
+empty_past n p bytes long l m =
+    get_or-append_right (take n bytes) (drop n (replicate 361 46)) n p 0 (length-take-le n bytes long) l
+    ∙ (get_or-drop n (replicate 361 46) (p - n) 0
+    ∙ get_or-replicate 361 (n + (p - n)) 46 0 (omega arith))
+
+pub front_copied : (n : ℕ) (bytes : List ℕ) → n ≤ length bytes → take n (on_empty n bytes) ≡ take n bytes
+front_copied n bytes long =
+    let size : length (take n bytes) ≡ n = length-take-le n bytes long in
+    take-append-le n (take n bytes) (drop n (replicate 361 46)) (omega arith)
+    ∙ take_all n (take n bytes) (omega arith)
 
 -- the longest front that passes ends at the first that fails, or with the list
 pub leading_is : (t : ℕ → Bool) (xs : List ℕ) (i : ℕ) → i ≤ length xs → ((k : ℕ) → k < i → t (get_or xs k 0) ≡ true) → (i < length xs → t (get_or xs i 0) ≡ false) → prefix_len t xs ≡ i
@@ -19,32 +39,6 @@ leading_take t n xs i long l f g = sym (leading_is t (take n xs) i (omega (arith
     size : length (take n xs) ≡ n
     size = length-take-le n xs long
 
--- the first p cells are copied, and the others still empty
-pub record Copying (bytes cells : List ℕ) (p : ℕ) : Type 0 where
-  pub long : length cells ≡ 361
-  pub copied : (q : ℕ) → q < p → get_or cells q 0 ≡ get_or bytes q 0
-  pub rest : (q : ℕ) → p ≤ q → q < 361 → get_or cells q 0 ≡ 46
-
--- nothing is copied yet
-pub copying_start : {bytes : List ℕ} → Copying bytes (replicate 361 46) 0
-copying_start = record { long = length-replicate {A = ℕ} 361 46; copied = λ q l. absurd (omega arith); rest = λ q l m. get_or-replicate {A = ℕ} 361 q 46 0 m }
-
--- one cell more is copied
-pub copying_step : {bytes cells : List ℕ} {p : ℕ} → p < 361 → Copying bytes cells p → Copying bytes (set cells p (get_or bytes p 0)) (p + 1)
-copying_step {bytes} {cells} {p} l w = record {
-  long = length-set cells p (get_or bytes p 0) ∙ w.long;
-  copied = λ q m. elim (cases_eq q p) [
-    | inl e ↦ subst (λ (i : ℕ). get_or (set cells p (get_or bytes p 0)) i 0 ≡ get_or bytes i 0) (sym e) (get_or-set_same cells p (get_or bytes p 0) 0 (omega (arith, w.long)))
-    | inr e ↦ get_or-set_other cells p q (get_or bytes p 0) 0 e ∙ w.copied q (omega arith)
-  ];
-  rest = λ q m k. get_or-set_other cells p q (get_or bytes p 0) 0 (λ e. omega arith) ∙ w.rest q (omega arith) k;
-}
-
--- the first n are copied
-pub copying_end : {bytes cells : List ℕ} {p : ℕ} (n : ℕ) → n ≤ p → n ≤ 361 → n ≤ length bytes → Copying bytes cells p → take n cells ≡ take n bytes
-copying_end {bytes} {cells} {p} n l few long w =
-    ext_get_or 0 (take n cells) (take n bytes) (size ∙ sym (length-take-le n bytes long))
-    (λ i m. let k : i < n = omega (arith, size) in get_or-take n cells i 0 k ∙ (w.copied i (omega arith) ∙ sym (get_or-take n bytes i 0 k)))
-  where
-    size : length (take n cells) ≡ n
-    size = length-take-le n cells (omega (arith, w.long))
+-- it is no longer than the list
+pub front_fits : (t : ℕ → Bool) (xs : List ℕ) → prefix_len t xs ≤ length xs
+front_fits t xs = prefix_len-le-length t xs

@@ -1,7 +1,8 @@
 -- Labels by first points: what holds while the points are gone through in order, and that there is one labelling.
-use Rattle.std.proofs.Common.{◌≡◌, ℕ, ◌+◌, ◌-◌, ◌<◌, ◌≤◌, Bool, true, eqb, ltb, ◌≢◌, List, length, get_or, drop, sym, refl, ap, ◌∙◌, subst, inl, inr, le_antisymm, arith}
+use Rattle.std.proofs.Common.{◌≡◌, ℕ, ◌+◌, ◌-◌, ◌<◌, ◌≤◌, Bool, true, eqb, ltb, ◌≢◌, List, ◌++◌, length, get_or, drop, replicate, sym, refl, ap, ◌∙◌, subst, inl, inr, le_antisymm, arith}
 use Rattle.std.proofs.lemmas.Bool.{cases_eq, cases_lt, eqb-true, ltb-true, and_parts}
-use Rattle.std.proofs.lemmas.List.{get_or-drop, ext_get_or, length-drop}
+use Rattle.std.proofs.lemmas.List.{get_or-drop, ext_get_or, length-drop, get_or_append_left, get_or-replicate, length-replicate}
+use Rattle.std.proofs.lemmas.Slice.{drop-append-drop}
 use Rattle.grid.specs.Graph.{Near, Graph}
 use Rattle.chains.specs.Linked.{Linked, here, step}
 use Rattle.chains.specs.Labels.{of_class, First, Labelled}
@@ -126,3 +127,12 @@ pub past_same : {n : ℕ} (a b : List ℕ) → length a ≡ length b → ((q : �
 past_same {n} a b e f =
     ext_get_or 0 (drop n a) (drop n b) (length-drop n a ∙ (ap (λ m. m - n) e ∙ sym (length-drop n b)))
     (λ i l. get_or-drop n a i 0 ∙ (f (n + i) (omega arith) ∙ sym (get_or-drop n b i 0)))
+
+-- after the labels of the first n points were taken off: they have none, and the others are as they were
+pub taken_off : (n q : ℕ) (old : List ℕ) → q < n → get_or (replicate n 65535 ++ drop n old) q 0 ≡ 65535
+taken_off n q old l =
+    let long : q < length (replicate n 65535) = omega (arith, length-replicate {A = ℕ} n 65535) in
+    get_or_append_left (replicate n 65535) (drop n old) 0 q long ∙ get_or-replicate {A = ℕ} n q 65535 0 l
+
+pub others_kept : (n : ℕ) (old : List ℕ) → drop n (replicate n 65535 ++ drop n old) ≡ drop n old
+others_kept n old = drop-append-drop n old (replicate n 65535) n (omega arith) (length-replicate {A = ℕ} n 65535)

@@ -1,3 +1,4 @@
+pub mod Alike
 pub mod Below
 pub mod Breath
 pub mod Cells
@@ -11,3 +12,6 @@ pub mod Square
 pub mod States
 pub mod Views
 pub mod Walk
+pub mod Changing
+pub mod Filled
+pub mod Finding

@@ -1,7 +1,9 @@
 -- Chains that breathe: what holds while their labels are marked.
-use Rattle.std.proofs.Common.{◌≡◌, ℕ, ◌+◌, ◌<◌, ◌≤◌, Bool, true, false, ◌&&◌, ltb, ◌≢◌, ◌⊎◌, List, length, get_or, set, replicate, Some, None, Option, sym, refl, ap, ◌∙◌, subst, inl, inr, arith}
+use Rattle.std.proofs.Common.{◌≡◌, ℕ, ◌+◌, ◌<◌, ◌≤◌, Bool, true, false, ◌&&◌, ltb, ◌≢◌, ◌⊎◌, List, [], ◌∷◌, ◌++◌, length, get_or, set, replicate, Some, None, Option, sym, refl, ap, ◌∙◌, subst, inl, inr, arith}
 use Rattle.std.proofs.lemmas.Bool.{both_ways, cases_eq, cases_lt, lt-ltb, le-ltb, ltb-true, and_parts, and_from}
 use Rattle.std.proofs.lemmas.List.{get_or-set_same, get_or-set_other, length-set, length-replicate, get_or-replicate, get_or_past}
+use Rattle.std.proofs.lemmas.List.Elements.{Contains-push_cases}
+use Rattle.std.specs.List.{Contains}
 use Rattle.grid.specs.Graph.{Near, Graph}
 use Rattle.chains.specs.Board.{State, none, Breathes}
 use Rattle.chains.specs.Labels.{Labelled}
@@ -12,54 +14,48 @@ use Rattle.chains.proofs.Chain.{joined_last}
 use Rattle.chains.proofs.Labelling.{linked_inside}
 use Rattle.chains.proofs.Views.{view_byte, view_none, none_view, stone_byte_of, stone_view, one_label, label_chain}
 
--- the neighbours of x with numbers below k are gone through
-pub record Marking (near : Near) (hand : ℕ → Option ℕ) (cells labels : List ℕ) (x : ℕ) (old new : List Bool) (k : ℕ) : Type 0 where
+-- the neighbours xs of x are gone through
+pub record Marking (near : Near) (cells labels : List ℕ) (x : ℕ) (old new : List Bool) (xs : List ℕ) : Type 0 where
   pub sound : (r : ℕ) → get_or new r false ≡ true → (get_or old r false ≡ true) ⊎ Beside near cells labels x r
   pub kept : (r : ℕ) → get_or old r false ≡ true → get_or new r false ≡ true
-  pub seen : (j q : ℕ) → j < k → hand j ≡ Some q → is_stone (get_or cells q 0) ≡ true → get_or new (get_or labels q 0) false ≡ true
+  pub seen : (q : ℕ) → Contains xs q → is_stone (get_or cells q 0) ≡ true → get_or new (get_or labels q 0) false ≡ true
 
 -- nothing is gone through yet
-pub marking_start : {near : Near} {hand : ℕ → Option ℕ} {cells labels : List ℕ} {x : ℕ} {old : List Bool} → Marking near hand cells labels x old old 0
-marking_start = record { sound = λ r e. inl e; kept = λ r e. e; seen = λ j q l e s. absurd (omega arith) }
+pub marking_start : {near : Near} {cells labels : List ℕ} {x : ℕ} {old : List Bool} → Marking near cells labels x old old []
+marking_start = record { sound = λ r e. inl e; kept = λ r e. e; seen = λ q c s. absurd (omega (arith, c.1)) }
 
-skip : {near : Near} {hand : ℕ → Option ℕ} {cells labels : List ℕ} {x : ℕ} {old new after : List Bool} {k : ℕ} →
-    Marking near hand cells labels x old new k → after ≡ new →
-    ((q : ℕ) → hand k ≡ Some q → is_stone (get_or cells q 0) ≡ true → get_or new (get_or labels q 0) false ≡ true) →
-    Marking near hand cells labels x old after (k + 1)
-skip {near} {hand} {cells} {labels} {x} {old} {new} {after} {k} w is f = subst (λ (m : List Bool). Marking near hand cells labels x old m (k + 1)) (sym is) (record {
+more : {near : Near} {cells labels : List ℕ} {x : ℕ} {old new after : List Bool} {xs : List ℕ} (q : ℕ) →
+    Marking near cells labels x old new xs → after ≡ new →
+    (is_stone (get_or cells q 0) ≡ true → get_or new (get_or labels q 0) false ≡ true) →
+    Marking near cells labels x old after (xs ++ q ∷ [])
+more {near} {cells} {labels} {x} {old} {new} {after} {xs} q w is f = subst (λ (m : List Bool). Marking near cells labels x old m (xs ++ q ∷ [])) (sym is) (record {
   sound = w.sound;
   kept = w.kept;
-  seen = λ j q l e s. elim (cases_eq j k) [
-    | inl same ↦ f q (subst (λ (i : ℕ). hand i ≡ Some q) same e) s
-    | inr other ↦ w.seen j q (omega arith) e s
+  seen = λ r c. elim (Contains-push_cases xs q r c) [
+    | inl was ↦ w.seen r was
+    | inr e ↦ subst (λ (i : ℕ). is_stone (get_or cells i 0) ≡ true → get_or new (get_or labels i 0) false ≡ true) e f
   ];
 })
 
--- the number has no neighbour
-pub marking_none : {near : Near} {hand : ℕ → Option ℕ} {cells labels : List ℕ} {x : ℕ} {old new after : List Bool} {k : ℕ} →
-    Marking near hand cells labels x old new k → after ≡ new → None ≡ hand k → Marking near hand cells labels x old after (k + 1)
-marking_none w is e = skip w is (λ q f s. let z : ◌≡◌ {A = ℕ} 0 1 = cc in absurd (omega arith))
+-- the next neighbour is no stone
+pub marking_past : {near : Near} {cells labels : List ℕ} {x : ℕ} {old new after : List Bool} {xs : List ℕ} (q : ℕ) →
+    Marking near cells labels x old new xs → after ≡ new → is_stone (get_or cells q 0) ≡ false → Marking near cells labels x old after (xs ++ q ∷ [])
+marking_past {cells = cells} q w is e = more q w is (λ s. absurd (both_ways (is_stone (get_or cells q 0)) e s))
 
--- its neighbour is no stone
-pub marking_past : {near : Near} {hand : ℕ → Option ℕ} {cells labels : List ℕ} {x : ℕ} {old new after : List Bool} {k q : ℕ} →
-    Marking near hand cells labels x old new k → after ≡ new → Some q ≡ hand k → is_stone (get_or cells q 0) ≡ false → Marking near hand cells labels x old after (k + 1)
-marking_past {cells = cells} {q = q} w is e f =
-    skip w is (λ r g s. let same : q ≡ r = cc in absurd (both_ways (is_stone (get_or cells q 0)) f (subst (λ (i : ℕ). is_stone (get_or cells i 0) ≡ true) (sym same) s)))
-
--- its neighbour's label is marked
-pub marking_step : {near : Near} {hand : ℕ → Option ℕ} {cells labels : List ℕ} {x : ℕ} {old new after : List Bool} {k q : ℕ} →
-    Marking near hand cells labels x old new k → after ≡ set new (get_or labels q 0) true → Some q ≡ hand k → near x q ≡ true →
-    get_or labels q 0 < length new → is_stone (get_or cells q 0) ≡ true → Marking near hand cells labels x old after (k + 1)
-marking_step {near} {hand} {cells} {labels} {x} {old} {new} {after} {k} {q} w is handed next long stone =
-    skip (record {
+-- the next neighbour's label is marked
+pub marking_step : {near : Near} {cells labels : List ℕ} {x : ℕ} {old new after : List Bool} {xs : List ℕ} {q : ℕ} →
+    Marking near cells labels x old new xs → after ≡ set new (get_or labels q 0) true → near x q ≡ true →
+    get_or labels q 0 < length new → is_stone (get_or cells q 0) ≡ true → Marking near cells labels x old after (xs ++ q ∷ [])
+marking_step {near} {cells} {labels} {x} {old} {new} {after} {xs} {q} w is next long stone =
+    more q (record {
       sound = λ r e. elim (cases_eq r (get_or labels q 0)) [
         | inl same ↦ inr (record { stone = q; next = next; is = stone; label = sym same })
         | inr other ↦ w.sound r (sym (get_or-set_other new (get_or labels q 0) r true false other) ∙ e)
       ];
       kept = λ r e. stays r (w.kept r e);
-      seen = λ j r l e s. stays (get_or labels r 0) (w.seen j r l e s);
+      seen = λ r c s. stays (get_or labels r 0) (w.seen r c s);
     }) is
-    (λ r e s. let same : q ≡ r = cc in subst (λ (i : ℕ). get_or (set new (get_or labels q 0) true) (get_or labels i 0) false ≡ true) same (get_or-set_same new (get_or labels q 0) true false long))
+    (λ s. get_or-set_same new (get_or labels q 0) true false long)
   where
     stays : (r : ℕ) → get_or new r false ≡ true → get_or (set new (get_or labels q 0) true) r false ≡ true
     stays r e = elim (cases_eq r (get_or labels q 0)) [
@@ -68,13 +64,12 @@ marking_step {near} {hand} {cells} {labels} {x} {old} {new} {after} {k} {q} w is
     ]
 
 -- all neighbours are gone through
-pub marking_end : {near : Near} {hand : ℕ → Option ℕ} {cells labels : List ℕ} {x : ℕ} {old new : List Bool} {m k : ℕ} →
-    ((q : ℕ) → near x q ≡ true → (j : ℕ) × (j < m) × (hand j ≡ Some q)) → m ≤ k →
-    Marking near hand cells labels x old new k → MarkedBeside near cells labels x old new
-marking_end complete all w = record {
+pub marking_end : {near : Near} {cells labels : List ℕ} {x : ℕ} {old new : List Bool} {xs : List ℕ} →
+    ((q : ℕ) → near x q ≡ true → Contains xs q) → Marking near cells labels x old new xs → MarkedBeside near cells labels x old new
+marking_end complete w = record {
   sound = w.sound;
   kept = w.kept;
-  complete = λ q s e. let f = complete q s in w.seen f.0 q (omega (arith, f.1)) f.2 e;
+  complete = λ q s. w.seen q (complete q s);
 }
 
 -- no empty point is gone through yet
@@ -111,11 +106,6 @@ marked_step {near} {cells} {labels} {marks} {new} {after} {p} w is f d = subst (
 pub marked_end : {near : Near} {cells labels : List ℕ} {marks : List Bool} {p : ℕ} (n : ℕ) → n ≤ p → MarkedBelow near cells labels p marks → MarkedBelow near cells labels n marks
 marked_end n l w = record { sound = w.sound; complete = λ x q m e s t. w.complete x q (omega arith) e s t }
 
--- the stones on points below p have their marks
-pub record StonesMarked (cells labels : List ℕ) (chains marks : List Bool) (p : ℕ) : Type 0 where
-  pub long : length marks ≡ 361
-  pub marks_are : (q : ℕ) → get_or marks q false ≡ stone_mark p cells labels chains q
-
 -- where every entry is false, no point is marked
 pub unmarked : (n q : ℕ) → get_or (replicate n false) q false ≡ false
 unmarked n q = elim (cases_lt q n) [
@@ -123,57 +113,37 @@ unmarked n q = elim (cases_lt q n) [
   | inr l ↦ get_or_past (replicate n false) q false (omega (arith, length-replicate n false))
 ]
 
--- nothing is marked yet
-pub stones_start : {cells labels : List ℕ} {chains : List Bool} → StonesMarked cells labels chains (replicate 361 false) 0
-stones_start {cells} {labels} {chains} = record {
-  long = length-replicate 361 false;
-  marks_are = λ q. unmarked 361 q ∙ sym (none q);
-}
-  where
-    none : (q : ℕ) → stone_mark 0 cells labels chains q ≡ false
-    none q = rw (le-ltb q 0 (omega arith)) refl
+-- the first p entries are what the test gives, and the others false
+pub record StonesMarked (t : ℕ → Bool) (marks : List Bool) (p : ℕ) : Type 0 where
+  pub long : length marks ≡ 361
+  pub below : (q : ℕ) → q < p → get_or marks q false ≡ t q
+  pub above : (q : ℕ) → p ≤ q → get_or marks q false ≡ false
 
-ltb_more : (q p : ℕ) → q ≢ p → ltb q (p + 1) ≡ ltb q p
-ltb_more q p h = elim (cases_lt q p) [
-  | inl l ↦ lt-ltb q (p + 1) (omega arith) ∙ sym (lt-ltb q p l)
-  | inr l ↦ le-ltb q (p + 1) (omega arith) ∙ sym (le-ltb q p l)
+-- nothing is marked yet
+pub stones_start : {t : ℕ → Bool} → StonesMarked t (replicate 361 false) 0
+stones_start = record { long = length-replicate {A = Bool} 361 false; below = λ q l. absurd (omega arith); above = λ q l. unmarked 361 q }
+
+-- one entry more
+pub stones_step : {t : ℕ → Bool} {marks : List Bool} {p : ℕ} {m : Bool} → StonesMarked t marks p → p < 361 → m ≡ t p → StonesMarked t (set marks p m) (p + 1)
+stones_step {t} {marks} {p} {m} w l e = record {
+  long = length-set marks p m ∙ w.long;
+  below = λ q k. elim (cases_eq q p) [
+    | inl same ↦ subst (λ (i : ℕ). get_or (set marks p m) i false ≡ t i) (sym same) (get_or-set_same marks p m false (omega (arith, w.long)) ∙ e)
+    | inr other ↦ get_or-set_other marks p q m false other ∙ w.below q (omega arith)
+  ];
+  above = λ q k. get_or-set_other marks p q m false (λ s. omega arith) ∙ w.above q (omega arith);
+}
+
+-- all points are gone through, and past them the test gives nothing
+pub stones_end : {t : ℕ → Bool} {marks : List Bool} {n p : ℕ} → ((q : ℕ) → n ≤ q → t q ≡ false) → StonesMarked t marks p → p ≡ n → (q : ℕ) → get_or marks q false ≡ t q
+stones_end {t} {marks} {n} {p} past w e q = elim (cases_lt q p) [
+  | inl l ↦ w.below q l
+  | inr l ↦ w.above q l ∙ sym (past q (omega arith))
 ]
 
-other_mark : (cells labels : List ℕ) (chains : List Bool) (q p : ℕ) → q ≢ p → stone_mark p cells labels chains q ≡ stone_mark (p + 1) cells labels chains q
-other_mark cells labels chains q p h = rw (ltb_more q p h) refl
-
--- no stone stands at p
-pub stones_skip : {cells labels : List ℕ} {chains marks after : List Bool} {p : ℕ} →
-    StonesMarked cells labels chains marks p → after ≡ marks → is_stone (get_or cells p 0) ≡ false → StonesMarked cells labels chains after (p + 1)
-stones_skip {cells} {labels} {chains} {marks} {after} {p} w is f = subst (λ (m : List Bool). StonesMarked cells labels chains m (p + 1)) (sym is) (record {
-  long = w.long;
-  marks_are = λ q. elim (cases_eq q p) [
-    | inl same ↦ subst (λ (i : ℕ). get_or marks i false ≡ stone_mark (p + 1) cells labels chains i) (sym same) (w.marks_are p ∙ (before ∙ sym now))
-    | inr other ↦ w.marks_are q ∙ other_mark cells labels chains q p other
-  ];
-})
-  where
-    before : stone_mark p cells labels chains p ≡ false
-    before = rw (le-ltb p p (omega arith)) refl
-
-    now : stone_mark (p + 1) cells labels chains p ≡ false
-    now = rw (lt-ltb p (p + 1) (omega arith), f) refl
-
--- the stone at p gets the mark of its label
-pub stones_step : {cells labels : List ℕ} {chains marks after : List Bool} {p : ℕ} →
-    StonesMarked cells labels chains marks p → after ≡ set marks p (get_or chains (get_or labels p 0) false) → p < 361 → is_stone (get_or cells p 0) ≡ true →
-    StonesMarked cells labels chains after (p + 1)
-stones_step {cells} {labels} {chains} {marks} {after} {p} w is l f = subst (λ (m : List Bool). StonesMarked cells labels chains m (p + 1)) (sym is) (record {
-  long = length-set marks p (get_or chains (get_or labels p 0) false) ∙ w.long;
-  marks_are = λ q. elim (cases_eq q p) [
-    | inl same ↦ subst (λ (i : ℕ). get_or (set marks p (get_or chains (get_or labels p 0) false)) i false ≡ stone_mark (p + 1) cells labels chains i) (sym same)
-        (get_or-set_same marks p (get_or chains (get_or labels p 0) false) false (omega (arith, w.long)) ∙ sym now)
-    | inr other ↦ get_or-set_other marks p q (get_or chains (get_or labels p 0) false) false other ∙ (w.marks_are q ∙ other_mark cells labels chains q p other)
-  ];
-})
-  where
-    now : stone_mark (p + 1) cells labels chains p ≡ get_or chains (get_or labels p 0) false
-    now = rw (lt-ltb p (p + 1) (omega arith), f) refl
+-- past the board there is no mark
+pub no_mark_past : (n : ℕ) (cells labels : List ℕ) (chains : List Bool) (p : ℕ) → n ≤ p → stone_mark n cells labels chains p ≡ false
+no_mark_past n cells labels chains p l = rw (le-ltb p n l) refl
 
 -- labels of stones are points
 pub label_inside : {n : ℕ} {near : Near} {cells labels : List ℕ} → Labelled n near cells 46 labels → (q : ℕ) → q < n → is_stone (get_or cells q 0) ≡ true → get_or labels q 0 < n

@@ -1,5 +1,5 @@
 -- Chains and rooms by their first points. Assumes nothing: these are definitions.
-use Rattle.std.specs.Prelude.{◌≡◌, ℕ, ◌<◌, ◌≤◌, Bool, cond, ◌&&◌, ◌≢◌, List, Some, None, Option, ◌==◌, nat_lt, slice_index}
+use Rattle.std.specs.Prelude.{◌≡◌, ℕ, ◌<◌, ◌≤◌, Bool, ◌&&◌, ◌≢◌, List, ◌==◌, nat_lt, slice_index}
 use Rattle.grid.specs.Graph.{Near}
 use Rattle.chains.specs.Board.{State, none, Board, Joined}
 use Rattle.chains.specs.Linked.{Linked}
@@ -7,11 +7,6 @@ use Rattle.chains.specs.Linked.{Linked}
 -- the points below n whose class is c
 abbrev pub of_class : ℕ → List ℕ → ℕ → ℕ → Bool
 of_class n classes c q = nat_lt q n && slice_index classes q == c
-
--- a neighbour of p, if it is of the class of p
-abbrev pub link_of : List ℕ → ℕ → Option ℕ → Option ℕ
-link_of classes p None = None
-link_of classes p (Some q) = cond (slice_index classes q == slice_index classes p) (Some q) None
 
 -- r is the first of the points that are linked to p
 pub record First (near : Near) (t : ℕ → Bool) (p r : ℕ) : Type 0 where

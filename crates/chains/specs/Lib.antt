@@ -1,5 +1,6 @@
 pub mod Board
 pub mod Breath
+pub mod Changed
 pub mod Computed
 pub mod Decided
 pub mod Labels

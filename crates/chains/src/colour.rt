@@ -1,7 +1,9 @@
 //! The two colours, and the bytes by which a board writes its points.
 
-ghost use Rattle.std.specs.Prelude.{◌≡◌};
+ghost use Rattle.std.specs.Prelude.{◌≡◌, [], ◌∷◌, Some};
 ghost use Rattle.chains.specs.Views.{stone_byte, other, is_point, is_stone, colour_of};
+
+use std::fmt;
 
 pub const EMPTY_BYTE: u8 = b'.';
 
@@ -30,7 +32,7 @@ pub enum Colour {
 }
 
 impl Colour {
-    /// The colour of the stone that a byte writes.
+    /// The colour of the stone that a byte writes. Not `TryFrom`: in an audit a byte names a colour by a number.
     pub fn of_byte(byte: u8) -> Option<Colour>
         ensures { result ≡ colour_of byte }
     {
@@ -59,5 +61,17 @@ impl Colour {
             Colour::Black => Colour::White,
             Colour::White => Colour::Black,
         }
+    }
+}
+
+/// A colour is printed as its stone is written.
+impl fmt::Display for Colour {
+    ghost output = { λ colour. Some (stone_byte colour ∷ []) };
+
+    fn fmt<W: fmt::Write>(&self, f: &mut fmt::Formatter<W>) -> fmt::Result {
+        f.write_str(match self {
+            Colour::Black => "X",
+            Colour::White => "O",
+        })
     }
 }

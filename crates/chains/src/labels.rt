@@ -1,8 +1,7 @@
 //! Chains and rooms by their first points: a label for each point.
 
-ghost use Rattle.std.specs.Prelude.{◌≡◌, ℕ, ◌<◌, ◌≤◌, true, false, ◌&&◌, length, drop, Some, None, nat_le, slice_index};
-ghost use Rattle.grid.specs.Neighbours.{hand};
-ghost use Rattle.chains.specs.Labels.{link_of, Labelled};
+ghost use Rattle.std.specs.Prelude.{◌≡◌, ℕ, ◌<◌, ◌≤◌, true, false, ◌&&◌, ◌++◌, length, drop, replicate, Ok, Err, nat_le, slice_index};
+ghost use Rattle.chains.specs.Labels.{Labelled};
 ghost use Rattle.chains.specs.Sized.{count_of, near_of};
 ghost use Rattle.chains.specs.Walked.{Walked};
 
@@ -12,31 +11,8 @@ use grid::size::Size;
 pub const MAX_POINTS: usize = 361;
 
 /// The label of a point that has none: no board has a point of this number.
+// A number and no Option, since chains and rooms are lent as slices of u16, a form that the society named.
 pub const NO_POINT: u16 = 65_535;
-
-/// The neighbour of p with the number k. The same as the size's own answer, with its facts case by case.
-pub(crate) fn beside(size: Size, p: usize, k: usize) -> Option<usize>
-    ensures value { result ≡ hand size.width size.height p k }
-    ensures sound { elim result [ Some q ↦ (near_of size p q ≡ true) × (q < count_of size) | None ↦ Unit {0} ] }
-{
-    size.neighbour(p, k)
-}
-
-/// The neighbour of p with the number k, if it is of the class of p.
-fn link(size: Size, classes: &[u8], p: usize, k: usize) -> Option<usize>
-    requires classed { count_of size ≤ length classes.now }
-    requires inside { p < count_of size }
-    ensures value { result ≡ link_of classes.now p (hand size.width size.height p k) }
-    ensures sound { elim result [
-      | Some q ↦ (near_of size p q ≡ true) × (q < count_of size) × (slice_index classes.now q ≡ slice_index classes.now p)
-      | None ↦ Unit {0}
-    ] }
-{
-    match beside(size, p, k) {
-        Some(q) if classes[q] == classes[p] => Some(q),
-        _ => None,
-    }
-}
 
 /// Writes the name at p and at every point without a label that is reached from p over points of one class.
 fn walk(size: Size, classes: &[u8], labels: &mut [u16], p: usize, name: u16)
@@ -48,11 +24,9 @@ fn walk(size: Size, classes: &[u8], labels: &mut [u16], p: usize, name: u16)
     ensures { Walked (count_of size) (near_of size) classes.now p name labels.old labels.new }
 {
     labels[p] = name;
-    for k in 0..size.neighbour_slots(p) {
-        if let Some(q) = link(size, classes, p, k) {
-            if labels[q] == NO_POINT {
-                walk(size, classes, labels, q, name);
-            }
+    for q in size.neighbours(p) {
+        if classes[q] == classes[p] && labels[q] == NO_POINT {
+            walk(size, classes, labels, q, name);
         }
     }
 }
@@ -60,12 +34,9 @@ fn walk(size: Size, classes: &[u8], labels: &mut [u16], p: usize, name: u16)
 /// Takes the labels off the first points.
 fn clear(labels: &mut [u16], count: usize)
     requires { count ≤ length labels.old }
-    ensures cleared { (p : ℕ) → p < count → slice_index labels.new p ≡ 65535 }
-    ensures past { drop count labels.new ≡ drop count labels.old }
+    ensures { labels.new ≡ replicate count 65535 ++ drop count labels.old }
 {
-    for p in 0..count {
-        labels[p] = NO_POINT;
-    }
+    labels[0..count].fill(NO_POINT);
 }
 
 /// Labels every point whose class is not left out. In the order of the points a walk starts at the first point of what it reaches.
@@ -76,6 +47,7 @@ pub(crate) fn label_points(size: Size, classes: &[u8], left_out: u8, labels: &mu
     ensures past { drop (count_of size) labels.new ≡ drop (count_of size) labels.old }
 {
     clear(labels, size.points());
+    // by number: the walk writes the labels that the loop reads
     for p in 0..size.points() {
         if classes[p] != left_out && labels[p] == NO_POINT {
             walk(size, classes, labels, p, p as u16);
@@ -83,17 +55,24 @@ pub(crate) fn label_points(size: Size, classes: &[u8], left_out: u8, labels: &mu
     }
 }
 
+/// Memory that does not reach over the board.
+#[derive(Clone, Copy, PartialEq, Eq, Debug)]
+pub struct TooShort;
+
 /// Gives each point the first point that is linked to it over points of its class, and NO_POINT where its class is left out.
-/// The answer is whether both slices reach over the board; if not, nothing is written.
-pub fn label(size: Size, classes: &[u8], left_out: u8, labels: &mut [u16]) -> bool
-    ensures fits { result ≡ (nat_le (count_of size) (length classes.now) && nat_le (count_of size) (length labels.old)) }
-    ensures firsts { result ≡ true → Labelled (count_of size) (near_of size) classes.now left_out labels.new }
+/// If one of the slices does not reach over the board, nothing is written.
+pub fn label(size: Size, classes: &[u8], left_out: u8, labels: &mut [u16]) -> Result<(), TooShort>
+    ensures answer { elim result [
+      | Ok _ ↦ ((nat_le (count_of size) (length classes.now) && nat_le (count_of size) (length labels.old)) ≡ true)
+          × Labelled (count_of size) (near_of size) classes.now left_out labels.new
+      | Err _ ↦ ((nat_le (count_of size) (length classes.now) && nat_le (count_of size) (length labels.old)) ≡ false)
+          × (labels.new ≡ labels.old)
+    ] }
     ensures past { drop (count_of size) labels.new ≡ drop (count_of size) labels.old }
-    ensures refused { result ≡ false → labels.new ≡ labels.old }
 {
     if classes.len() < size.points() || labels.len() < size.points() {
-        return false;
+        return Err(TooShort);
     }
     label_points(size, classes, left_out, labels);
-    true
+    Ok(())
 }

@@ -1,6 +1,7 @@
 //! Which chains breathe: every empty point marks the chains of the stones beside it.
 
-ghost use Rattle.std.specs.Prelude.{◌≡◌, ℕ, ◌<◌, ◌≤◌, true, false, length, Some, None, slice_index, slice_index_or};
+ghost use Rattle.std.specs.Prelude.{◌≡◌, ℕ, ◌-◌, ◌<◌, ◌≤◌, true, false, not, ◌&&◌, length, Some, None, nat_lt, slice_index, slice_index_or};
+ghost use Rattle.std.specs.List.{find, range_with_len};
 ghost use Rattle.chains.specs.Breath.{first_breathless, FromStart, BreathesAt, BreathlessFrom, FirstBreathless};
 ghost use Rattle.chains.specs.Marks.{MarkedBeside, MarkedBelow, stone_mark, BreathMarks};
 ghost use Rattle.chains.specs.Sized.{count_of, near_of, seen};
@@ -8,69 +9,88 @@ ghost use Rattle.chains.specs.Stands.{Stands};
 ghost use Rattle.chains.specs.Views.{is_stone};
 
 use crate::colour::{Colour, EMPTY_BYTE, is_stone};
-use crate::labels::{MAX_POINTS, NO_POINT, beside, label_points};
+use crate::labels::{MAX_POINTS, NO_POINT, label_points};
 use grid::size::Size;
 
-/// Marks the labels of the stones beside p.
-fn mark_beside(size: Size, cells: &[u8], labels: &[u16], p: usize, marks: &mut [bool])
-    requires celled { count_of size ≤ length cells.now }
-    requires labelled { count_of size ≤ length labels.now }
-    requires marked { count_of size ≤ length marks.old }
-    requires inside { (q : ℕ) → q < count_of size → is_stone (slice_index cells.now q) ≡ true → slice_index labels.now q < count_of size }
-    ensures { MarkedBeside (near_of size) cells.now labels.now p marks.old marks.new }
-{
-    for k in 0..size.neighbour_slots(p) {
-        if let Some(q) = beside(size, p, k) {
-            if is_stone(cells[q]) {
-                marks[labels[q] as usize] = true;
+/// The stones of a board, and the chain of each by its label, which is a point.
+#[derive(Clone, Copy)]
+struct Labels<'a> {
+    size: Size,
+    cells: &'a [u8],
+    labels: &'a [u16],
+    ghost celled: { count_of size ≤ length cells.now },
+    ghost labelled: { count_of size ≤ length labels.now },
+    ghost inside: { (q : ℕ) → q < count_of size → is_stone (slice_index cells.now q) ≡ true → slice_index labels.now q < count_of size },
+}
+
+impl Labels<'_> {
+    /// Marks the labels of the stones beside p.
+    fn mark_beside(&self, p: usize, marks: &mut [bool; MAX_POINTS])
+        ensures { MarkedBeside (near_of self.now.size) self.now.cells.now self.now.labels.now p marks.old marks.new }
+    {
+        for q in self.size.neighbours(p) {
+            if is_stone(self.cells[q]) {
+                marks[self.labels[q] as usize] = true;
             }
         }
     }
-}
 
-/// Marks the labels of all stones beside empty points.
-fn mark_chains(size: Size, cells: &[u8], labels: &[u16], marks: &mut [bool])
-    requires celled { count_of size ≤ length cells.now }
-    requires labelled { count_of size ≤ length labels.now }
-    requires marked { count_of size ≤ length marks.old }
-    requires inside { (q : ℕ) → q < count_of size → is_stone (slice_index cells.now q) ≡ true → slice_index labels.now q < count_of size }
-    requires unmarked { (q : ℕ) → slice_index_or marks.old q false ≡ false }
-    ensures { MarkedBelow (near_of size) cells.now labels.now (count_of size) marks.new }
-{
-    for p in 0..size.points() {
-        if !is_stone(cells[p]) {
-            mark_beside(size, cells, labels, p, marks);
+    /// Marks the labels of all stones beside empty points.
+    fn mark_chains(&self, marks: &mut [bool; MAX_POINTS])
+        requires { (q : ℕ) → slice_index_or marks.old q false ≡ false }
+        ensures { MarkedBelow (near_of self.now.size) self.now.cells.now self.now.labels.now (count_of self.now.size) marks.new }
+    {
+        // by number: the neighbours of the point are marked
+        for p in 0..self.size.points() {
+            if !is_stone(self.cells[p]) {
+                self.mark_beside(p, marks);
+            }
         }
     }
-}
 
-/// Whether a stone stands on each point whose label is marked.
-fn mark_stones(size: Size, cells: &[u8], labels: &[u16], chains: &[bool]) -> [bool; MAX_POINTS]
-    requires celled { count_of size ≤ length cells.now }
-    requires labelled { count_of size ≤ length labels.now }
-    requires marked { count_of size ≤ length chains.now }
-    requires inside { (q : ℕ) → q < count_of size → is_stone (slice_index cells.now q) ≡ true → slice_index labels.now q < count_of size }
-    ensures { (p : ℕ) → slice_index_or result p false ≡ stone_mark (count_of size) cells.now labels.now chains.now p }
-{
-    let mut marks = [false; MAX_POINTS];
-    for p in 0..size.points() {
-        if is_stone(cells[p]) {
-            marks[p] = chains[labels[p] as usize];
+    /// Whether a stone stands on each point whose label is marked.
+    fn mark_stones(&self, chains: &[bool; MAX_POINTS]) -> [bool; MAX_POINTS]
+        ensures { (p : ℕ) → slice_index_or result p false ≡ stone_mark (count_of self.now.size) self.now.cells.now self.now.labels.now chains.now p }
+    {
+        // not `from_fn`, which works out all 361 entries on the smallest board too
+        let mut marks = [false; MAX_POINTS];
+        for p in 0..self.size.points() {
+            marks[p] = self.is_marked(p, chains);
         }
+        marks
     }
-    marks
+
+    /// Whether a stone stands at p whose label is marked.
+    fn is_marked(&self, p: usize, chains: &[bool; MAX_POINTS]) -> bool
+        ensures { result ≡ stone_mark (count_of self.now.size) self.now.cells.now self.now.labels.now chains.now p }
+    {
+        self.has_stone(p) && chains[self.labels[p] as usize]
+    }
+
+    /// Whether a stone stands at p.
+    fn has_stone(&self, p: usize) -> bool
+        ensures { result ≡ (nat_lt p (count_of self.now.size) && is_stone (slice_index self.now.cells.now p)) }
+    {
+        p < self.size.points() && is_stone(self.cells[p])
+    }
 }
 
 /// For each point whether a stone stands there whose chain breathes.
-fn breath(size: Size, cells: &[u8]) -> [bool; MAX_POINTS]
+// Over any bytes and not a `Position`, as `breathing_stones` is.
+pub(crate) fn breath(size: Size, cells: &[u8]) -> [bool; MAX_POINTS]
     requires { count_of size ≤ length cells.now }
     ensures { (colour : Colour) → BreathMarks (near_of size) (seen size cells.now colour) result }
 {
-    let mut labels = [NO_POINT; MAX_POINTS];
-    let mut chains = [false; MAX_POINTS];
-    label_points(size, cells, EMPTY_BYTE, &mut labels);
-    mark_chains(size, cells, &labels, &mut chains);
-    mark_stones(size, cells, &labels, &chains)
+    let mut chains = [NO_POINT; MAX_POINTS];
+    let mut marks = [false; MAX_POINTS];
+    label_points(size, cells, EMPTY_BYTE, &mut chains);
+    let labels = Labels {
+        size,
+        cells,
+        labels: &chains,
+    };
+    labels.mark_chains(&mut marks);
+    labels.mark_stones(&marks)
 }
 
 /// For each point whether a stone stands there whose chain breathes; none where the cells do not reach over the board.
@@ -112,10 +132,19 @@ pub(crate) fn breathless_from(size: Size, cells: &[u8], from: usize) -> Option<u
     ] }
 {
     let marks = breath(size, cells);
-    for p in from..size.points() {
-        if is_stone(cells[p]) && !marks[p] {
-            return Some(p);
-        }
-    }
-    None
+    unmarked_from(cells, &marks, from, size.points())
+}
+
+/// The first point from `from` on, of so many, whose stone has no mark.
+fn unmarked_from(
+    cells: &[u8],
+    marks: &[bool; MAX_POINTS],
+    from: usize,
+    count: usize,
+) -> Option<usize>
+    requires celled { count ≤ length cells.now }
+    requires few { count ≤ 361 }
+    ensures { result ≡ find (λ p. is_stone (slice_index cells.now p) && not (slice_index_or marks.now p false)) (range_with_len from (count - from)) }
+{
+    (from..count).find(|p| is_stone(cells[*p]) && !marks[*p])
 }

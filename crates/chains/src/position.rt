@@ -1,27 +1,31 @@
 //! A position: the size of a board and what stands on its points, as a value.
 
-ghost use Rattle.std.specs.Prelude.{◌≡◌, ℕ, ◌<◌, ◌≤◌, true, length, take, drop, Some, None, Ok, Err, slice_index};
+ghost use Rattle.std.specs.Prelude.{◌≡◌, ℕ, ◌<◌, ◌≤◌, true, false, ◌++◌, length, take, drop, replicate, Some, None, Ok, Err, slice_index, slice_index_or};
 ghost use Rattle.std.specs.List.{prefix_len};
 ghost use Rattle.grid.specs.Refusals.{listed};
+ghost use Rattle.chains.specs.Board.{mine};
 ghost use Rattle.chains.specs.Breath.{first_breathless, stand_refusal, BreathesAt, FirstBreathless};
+ghost use Rattle.chains.specs.Changed.{cells_with, kept_byte, memory_refusal};
+ghost use Rattle.chains.specs.Computed.{breathing};
 ghost use Rattle.chains.specs.Labels.{ChainLabels};
 ghost use Rattle.chains.specs.Sized.{count_of, near_of, seen};
 ghost use Rattle.chains.specs.Stands.{Stands};
-ghost use Rattle.chains.specs.Views.{is_point, points_refusal, chains_refusal, standing};
+ghost use Rattle.chains.specs.Views.{stone_byte, is_point, points_refusal, chains_refusal, standing};
 
 use crate::colour::{Colour, EMPTY_BYTE, is_point};
 use crate::labels::{MAX_POINTS, label_points};
-use crate::liberties::{breath_at, breathless_from};
+use crate::liberties::{breath, breath_at, breathless_from};
 use grid::refusal::{Lent, Refusal};
 use grid::size::Size;
 
-/// Where the points begin in a file, after the two bytes of the size.
-const FIRST_POINT: usize = 2;
+/// The bytes of the size in a file: the width and the height, before the points.
+pub const SIZE_BYTES: usize = 2;
 
 /// Every cell of the board is a byte that writes a point, and the cells past it are empty.
-#[derive(Clone, Copy)]
+#[derive(Clone, Copy, PartialEq, Eq, Debug)]
 pub struct Position {
     size: Size,
+    // bytes in an array by value: the form that the society named for a judged board
     cells: [u8; MAX_POINTS],
     ghost board: { (p : ℕ) → p < count_of size → is_point (slice_index cells p) ≡ true },
     ghost past: { (p : ℕ) → count_of size ≤ p → p < 361 → slice_index cells p ≡ 46 },
@@ -40,9 +44,9 @@ impl Position {
         if bytes.len() < count {
             return Err(Refusal::TooShort(Lent::Points));
         }
-        let good = good_front(bytes, count);
+        let good = good_points(&bytes[0..count]);
         if good < count {
-            return Err(Refusal::BadByte(FIRST_POINT + good));
+            return Err(Refusal::BadByte(SIZE_BYTES + good));
         }
         Ok(Position::of_points(size, bytes))
     }
@@ -50,14 +54,11 @@ impl Position {
     /// The position of bytes that are long enough and good.
     fn of_points(size: Size, bytes: &[u8]) -> Position
         requires long { count_of size ≤ length bytes.now }
-        requires good { (p : ℕ) → p < count_of size → is_point (slice_index bytes.now p) ≡ true }
+        requires good { count_of size ≤ prefix_len is_point (take (count_of size) bytes.now) }
         ensures sized { result.size ≡ size }
         ensures copied { take (count_of size) result.cells ≡ take (count_of size) bytes.now }
     {
-        let mut cells = [EMPTY_BYTE; MAX_POINTS];
-        for p in 0..size.points() {
-            cells[p] = bytes[p];
-        }
+        let cells = on_empty(bytes, size.points());
         Position { size, cells }
     }
 
@@ -152,170 +153,92 @@ impl Position {
             None => Ok(()),
         }
     }
+
+    /// The position with a stone of that colour at p; a point off the board changes nothing.
+    pub fn with_stone(self, p: usize, colour: Colour) -> Position
+        ensures sized { result.size ≡ self.size }
+        ensures put { result.cells ≡ cells_with (count_of self.size) self.cells p colour }
+    {
+        if p >= self.size.points() {
+            return self;
+        }
+        let mut cells = self.cells;
+        cells[p] = colour.byte();
+        Position {
+            size: self.size,
+            cells,
+        }
+    }
+
+    /// The position without the stones of that colour whose chains do not breathe.
+    pub fn without_breathless(self, colour: Colour) -> Position
+        ensures sized { result.size ≡ self.size }
+        ensures left { (p : ℕ) → p < 361 → slice_index result.cells p
+            ≡ kept_byte (stone_byte colour) (slice_index self.cells p) (breathing (count_of self.size) (near_of self.size) (seen self.size self.cells colour) mine p) }
+    {
+        let gone = colour.byte();
+        let marks = breath(self.size, &self.cells);
+        Position {
+            size: self.size,
+            cells: kept_cells(&self.cells, gone, &marks),
+        }
+    }
+
+    /// Writes the points into the front of lent memory, and nothing past them.
+    pub fn write(&self, board: &mut [u8]) -> Result<(), Refusal>
+        ensures { elim result [
+          | Ok _ ↦ (memory_refusal (count_of self.now.size) board.old ≡ None)
+              × (board.new ≡ take (count_of self.now.size) self.now.cells ++ drop (count_of self.now.size) board.old)
+          | Err e ↦ (Some (listed e) ≡ memory_refusal (count_of self.now.size) board.old) × (board.new ≡ board.old)
+        ] }
+    {
+        let count = self.size.points();
+        if board.len() < count {
+            return Err(Refusal::TooShort(Lent::Points));
+        }
+        board[0..count].copy_from_slice(&self.cells[0..count]);
+        Ok(())
+    }
+}
+
+/// The bytes without the stones of that kind that do not breathe.
+fn kept_cells(
+    cells: &[u8; MAX_POINTS],
+    gone: u8,
+    breathing: &[bool; MAX_POINTS],
+) -> [u8; MAX_POINTS]
+    ensures { (p : ℕ) → p < 361 → slice_index result p ≡ kept_byte gone (slice_index cells.now p) (slice_index_or breathing.now p false) }
+{
+    std::array::from_fn(|p| kept(cells[p], gone, breathing[p]))
+}
+
+/// What becomes of a byte: a stone of the kind that is taken off stays where it breathes.
+fn kept(byte: u8, gone: u8, breathes: bool) -> u8
+    ensures { result ≡ kept_byte gone byte breathes }
+{
+    if byte == gone && !breathes {
+        EMPTY_BYTE
+    } else {
+        byte
+    }
+}
+
+/// The first bytes, and empty points after them.
+fn on_empty(bytes: &[u8], count: usize) -> [u8; MAX_POINTS]
+    requires long { count ≤ length bytes.now }
+    requires few { count ≤ 361 }
+    ensures { result ≡ take count bytes.now ++ drop count (replicate 361 46) }
+{
+    let mut cells = [EMPTY_BYTE; MAX_POINTS];
+    cells[0..count].copy_from_slice(&bytes[0..count]);
+    cells
 }
 
 /// How many of the bytes, from the first on, write points.
+#[tactic(auto, using(crate::proofs::Cells::front_fits))]
 pub fn good_points(bytes: &[u8]) -> usize
     ensures value { result ≡ prefix_len is_point bytes.now }
     ensures bound { result ≤ length bytes.now }
 {
-    good_all(bytes)
-}
-
-/// All bytes are their own first ones.
-fn good_all(bytes: &[u8]) -> usize
-    ensures value { result ≡ prefix_len is_point bytes.now }
-    ensures bound { result ≤ length bytes.now }
-{
-    good_front(bytes, bytes.len())
-}
-
-/// How many bytes of the first ones write points, up to the first that does not.
-fn good_front(bytes: &[u8], count: usize) -> usize
-    requires { count ≤ length bytes.now }
-    ensures value { result ≡ prefix_len is_point (take count bytes.now) }
-    ensures bound { result ≤ count }
-    ensures good { (p : ℕ) → p < result → is_point (slice_index bytes.now p) ≡ true }
-{
-    for p in 0..count {
-        if !is_point(bytes[p]) {
-            return p;
-        }
-    }
-    count
-}
-
-#[cfg(test)]
-mod tests {
-    use super::*;
-    use crate::colour::BLACK_BYTE;
-    use crate::labels::{NO_POINT, label};
-    use grid::size::Extent;
-    use std::test::Fail;
-
-    const SIDE: usize = 19;
-
-    fn sized(width: u8, height: u8) -> Result<Size, Fail> {
-        let Some(columns) = Extent::new(width) else {
-            return Err(Fail::new("no such width"));
-        };
-        let Some(rows) = Extent::new(height) else {
-            return Err(Fail::new("no such height"));
-        };
-        Ok(Size::new(columns, rows))
-    }
-
-    fn board(width: u8, height: u8, bytes: &[u8]) -> Result<Position, Fail> {
-        let Ok(position) = Position::new(sized(width, height)?, bytes) else {
-            return Err(Fail::new("no such board"));
-        };
-        Ok(position)
-    }
-
-    fn refused(width: u8, height: u8, bytes: &[u8]) -> Result<Refusal, Fail> {
-        match Position::new(sized(width, height)?, bytes) {
-            Ok(_) => Err(Fail::new("a board")),
-            Err(refusal) => Ok(refusal),
-        }
-    }
-
-    #[test]
-    fn chains_of_both_colours_are_labelled(rt: HostRuntime) -> Result<(), Fail> {
-        let position = board(3, 2, b"XXO.XO")?;
-        let mut labels = [7; 7];
-        assert!(rt; position.chains(&mut labels).is_ok());
-        assert_eq!(rt; labels, [0, 0, 2, NO_POINT, 0, 2, 7]);
-        assert_eq!(rt; position.at(2), Some(Colour::White));
-        assert_eq!(rt; position.at(3), None);
-        assert_eq!(rt; position.at(6), None);
-        Ok(())
-    }
-
-    // A chain that goes to and fro over every other row.
-    fn snake() -> [u8; MAX_POINTS] {
-        let mut cells = [EMPTY_BYTE; MAX_POINTS];
-        for p in 0..MAX_POINTS {
-            let (row, column) = (p / SIDE, p % SIDE);
-            let turn = if row % 4 == 1 { SIDE - 1 } else { 0 };
-            if row % 2 == 0 || column == turn {
-                cells[p] = BLACK_BYTE;
-            }
-        }
-        cells
-    }
-
-    #[test]
-    fn a_snake_is_one_chain(rt: HostRuntime) -> Result<(), Fail> {
-        let cells = snake();
-        let position = board(19, 19, &cells)?;
-        let mut labels = [0; MAX_POINTS];
-        assert!(rt; position.chains(&mut labels).is_ok());
-        for p in 0..MAX_POINTS {
-            assert_eq!(rt;
-                labels[p],
-                if cells[p] == BLACK_BYTE { 0 } else { NO_POINT }
-            );
-        }
-        assert_eq!(rt; position.first_breathless(), None);
-        Ok(())
-    }
-
-    #[test]
-    fn the_smallest_and_longest_boards_are_labelled(rt: HostRuntime) -> Result<(), Fail> {
-        let stones = [BLACK_BYTE; MAX_POINTS];
-        let mut labels = [NO_POINT; MAX_POINTS];
-        let one = board(1, 1, &stones)?;
-        assert!(rt; one.chains(&mut labels).is_ok());
-        assert_eq!(rt; labels[0], 0);
-        assert_eq!(rt; labels[1], NO_POINT);
-        assert_eq!(rt; one.first_breathless(), Some(0));
-        let row = board(19, 1, &stones)?;
-        assert!(rt; row.chains(&mut labels).is_ok());
-        assert_eq!(rt; labels[18], 0);
-        assert_eq!(rt; labels[19], NO_POINT);
-        let column = board(1, 19, &stones)?;
-        assert!(rt; column.chains(&mut labels).is_ok());
-        assert_eq!(rt; labels[18], 0);
-        assert_eq!(rt; labels[19], NO_POINT);
-        Ok(())
-    }
-
-    #[test]
-    fn the_first_breathless_stone_is_named(rt: HostRuntime) -> Result<(), Fail> {
-        let position = board(4, 1, b".XOX")?;
-        assert!(rt; position.breathes(1));
-        assert!(rt; !position.breathes(0));
-        assert!(rt; !position.breathes(2));
-        assert!(rt; !position.breathes(4));
-        assert_eq!(rt; position.first_breathless(), Some(2));
-        assert_eq!(rt; position.stands(), Err(Refusal::NoLiberty(2)));
-        Ok(())
-    }
-
-    // Any classes can be labelled, not only the bytes of a board.
-    #[test]
-    fn classes_are_labelled(rt: HostRuntime) -> Result<(), Fail> {
-        let size = sized(4, 1)?;
-        let mut labels = [7; 4];
-        assert!(rt; !label(size, &[1, 1, 2], 2, &mut labels));
-        assert_eq!(rt; labels, [7; 4]);
-        assert!(rt; label(size, &[1, 1, 2, 1], 2, &mut labels));
-        assert_eq!(rt; labels, [0, 0, NO_POINT, 3]);
-        Ok(())
-    }
-
-    #[test]
-    fn refusals_come_in_order_and_change_nothing(rt: HostRuntime) -> Result<(), Fail> {
-        assert_eq!(rt; refused(2, 2, b"X?.")?, Refusal::TooShort(Lent::Points));
-        assert_eq!(rt; refused(2, 2, b"X.?x")?, Refusal::BadByte(4));
-        let position = board(2, 2, b"X.O.?")?;
-        let mut labels = [7; 3];
-        assert_eq!(rt;
-            position.chains(&mut labels),
-            Err(Refusal::TooShort(Lent::Chains))
-        );
-        assert_eq!(rt; labels, [7; 3]);
-        assert_eq!(rt; position.stands(), Ok(()));
-        Ok(())
-    }
+    bytes.iter().take_while(|byte| is_point(**byte)).count()
 }

@@ -1,5 +1,5 @@
 -- The square board: its neighbours in arithmetic, that it is a board in the general sense, and that its neighbours are handed out exactly.
-use Rattle.std.proofs.Common.{◌≡◌, ℕ, zero, suc, ◌+◌, ◌-◌, ◌*◌, ◌/◌, ◌%◌, ◌<◌, ◌≤◌, true, ◌≢◌, ◌⊎◌, Some, Option, sym, refl, ap, ◌∙◌, inl, inr, ⊎_elim, suc-mul, mul_comm, add-mul, one-mul, div-add-mod', zero-mul, arith}
+use Rattle.std.proofs.Common.{◌≡◌, ℕ, zero, suc, ◌+◌, ◌-◌, ◌*◌, ◌/◌, ◌%◌, ◌<◌, ◌≤◌, true, ◌≢◌, ◌⊎◌, Some, None, Option, sym, refl, ap, ◌∙◌, inl, inr, ⊎_elim, suc-mul, mul_comm, add-mul, one-mul, div-add-mod', zero-mul, arith}
 use Rattle.std.proofs.lemmas.Nat.{div-mul-add, mod-mul-add, div_below, mod_below, mul-add-lt}
 use Rattle.std.proofs.lemmas.Bool.Decides.{nat_tests}
 use Rattle.grid.specs.Graph.{Graph}
@@ -146,9 +146,12 @@ hands w h = record {
 pub all_handed : (w h p r : ℕ) → r ≡ slots w h p → (q : ℕ) → near w h p q ≡ true → (k : ℕ) × (k < r) × (hand w h p k ≡ Some q)
 all_handed w h p r e q t = let f = (hands w h).complete p q t in (f.0, omega (arith, f.1), f.2)
 
-pub handed_near : (w h p k : ℕ) (r : Option ℕ) → r ≡ hand w h p k → (q : ℕ) → r ≡ Some q → (near w h p q ≡ true) × (q < points w h)
-handed_near w h p k r e q f =
-    let t = (hands w h).sound p k q (sym e ∙ f) in
+pub handed_near :
+    (w h p k : ℕ) (r : Option ℕ) → r ≡ hand w h p k
+    → elim r as (λ _. Type 0) [ Some q ↦ (near w h p q ≡ true) × (q < points w h) | None ↦ Unit {0} ]
+handed_near w h p k None e = tt
+handed_near w h p k (Some q) e =
+    let t = (hands w h).sound p k q (sym e) in
     (t, (graph w h).inside q p ((graph w h).symmetric p q t))
 
 pub handed_after : (w h p k : ℕ) (r : Option ℕ) → r ≡ hand w h p k → (j o q : ℕ) → j < k → hand w h p j ≡ Some o → r ≡ Some q → o < q

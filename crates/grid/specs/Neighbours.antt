@@ -1,5 +1,5 @@
 -- How a board hands out a point's neighbours by number. Assumes nothing: these are definitions.
-use Rattle.std.specs.Prelude.{◌≡◌, ℕ, ◌+◌, ◌-◌, ◌%◌, ◌<◌, ◌≤◌, true, cond, Some, None, Option, ◌==◌, nat_le, nat_lt}
+use Rattle.std.specs.Prelude.{◌≡◌, ℕ, zero, suc, ◌+◌, ◌-◌, ◌%◌, ◌<◌, ◌≤◌, true, cond, List, [], ◌∷◌, Some, None, Option, ◌==◌, nat_le, nat_lt}
 use Rattle.grid.specs.Graph.{Near}
 use Rattle.grid.specs.Grid.{points}
 
@@ -24,3 +24,12 @@ hand width height p k =
     (cond (k == 3) (cond (nat_lt (p + width) (points width height)) (Some (p + width)) None)
     None))))
     None
+
+-- what is handed out for the n numbers from k on, in their order
+unfoldable pub handed : (ℕ → Option ℕ) → ℕ → ℕ → List ℕ
+handed hand k zero = []
+handed hand k (suc n) = elim (hand k) [ Some q ↦ q ∷ handed hand (k + 1) n | None ↦ handed hand (k + 1) n ]
+
+-- the neighbours of p, the smaller point first
+abbrev pub neighbours_of : ℕ → ℕ → ℕ → List ℕ
+neighbours_of width height p = handed (hand width height p) 0 (slots width height p)

@@ -1,5 +1,5 @@
 -- The list of refusals: each case's number and the place that it names. Assumes nothing: these are definitions.
-use Rattle.std.specs.Prelude.{ℕ, Bool, cond, Some, Option}
+use Rattle.std.specs.Prelude.{ℕ, Bool, cond, List, ◌++◌, Some, Option, codes, decimal}
 use Rattle.grid.specs.declared.refusal.Side.TheVariants.{Width, Height}
 use Rattle.grid.specs.declared.refusal.Lent.TheVariants.{Points, Chains, Rooms, Moves}
 use Rattle.grid.specs.declared.refusal.Untaken.TheVariants.{NoStone, Marked}
@@ -46,3 +46,7 @@ listed e = (number_of e, place_of e)
 -- a line of the list: unless the test holds, that is the refusal; else the lines below it decide
 abbrev pub unless : Bool → ℕ × ℕ → Option (ℕ × ℕ) → Option (ℕ × ℕ)
 unless test line rest = cond test rest (Some line)
+
+-- how a refusal is printed: by its number and its place
+abbrev pub refusal_text : Refusal → List ℕ
+refusal_text e = codes "refused " ++ (decimal (number_of e) ++ (codes " at " ++ decimal (place_of e)))

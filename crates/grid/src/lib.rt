@@ -2,6 +2,8 @@
 
 #![tactic(auto)]
 
+pub mod neighbours;
 pub mod refusal;
+pub mod sides;
 pub mod size;
 pub mod theorems;

@@ -1,7 +1,10 @@
 //! Why an input is turned away: one case for each line of the list of refusals.
 
-ghost use Rattle.std.specs.Prelude.{◌≡◌};
-ghost use Rattle.grid.specs.Refusals.{number_of, place_of};
+ghost use Rattle.std.specs.Prelude.{◌≡◌, Some};
+ghost use Rattle.grid.specs.Refusals.{number_of, place_of, refusal_text};
+
+use std::error::Error;
+use std::fmt;
 
 /// Which side of the board has a length that is not allowed.
 #[derive(Clone, Copy, PartialEq, Eq, Debug)]
@@ -89,3 +92,15 @@ impl Refusal {
         }
     }
 }
+
+impl fmt::Display for Refusal {
+    ghost output = { λ refusal. Some (refusal_text refusal) };
+
+    fn fmt<W: fmt::Write>(&self, f: &mut fmt::Formatter<W>) -> fmt::Result {
+        let number = self.number();
+        let place = self.place();
+        write!(f, "refused {number} at {place}")
+    }
+}
+
+impl Error for Refusal {}

@@ -1,6 +1,6 @@
 //! The size of a board, and its neighbours by number.
 
-ghost use Rattle.std.specs.Prelude.{◌≡◌, ℕ, ◌*◌, ◌<◌, ◌≤◌, true, false, Some, None};
+ghost use Rattle.std.specs.Prelude.{◌≡◌, ℕ, ◌*◌, ◌<◌, ◌≤◌, true, false, [], ◌∷◌, Some, None};
 ghost use Rattle.grid.specs.Grid.{points, near};
 ghost use Rattle.grid.specs.Neighbours.{slots, hand};
 ghost use Rattle.grid.specs.Sizes.{side_fits};
@@ -9,7 +9,7 @@ ghost use Rattle.grid.specs.Sizes.{side_fits};
 pub const MAX_SIDE: u8 = 19;
 
 /// The numbers that a point of the square board has for its neighbours.
-const SLOTS: usize = 4;
+pub(crate) const SLOTS: usize = 4;
 
 /// How many points a side of the board has: 1 to 19.
 #[derive(Clone, Copy, PartialEq, Eq, Debug)]
@@ -19,7 +19,7 @@ pub struct Extent {
 }
 
 impl Extent {
-    /// The extent, if a side may be that long.
+    /// The extent, if a side may be that long. As `NonZeroU8::new`: an error would say no more than none.
     pub fn new(points: u8) -> Option<Extent>
         ensures { elim result [
           | Some e ↦ (side_fits points ≡ true) × (e.points ≡ points)
@@ -36,6 +36,7 @@ impl Extent {
 /// A width and a height of 1 to 19 points each.
 #[derive(Clone, Copy, PartialEq, Eq, Debug)]
 pub struct Size {
+    // two numbers and no two extents: clauses read `size.width`
     width: u8,
     height: u8,
     ghost ok: { (1 ≤ width) × (width ≤ 19) × (1 ≤ height) × (height ≤ 19) },
@@ -93,7 +94,7 @@ impl Size {
     /// The neighbour of p with the number k: above, left, right and below, which is also the order of the points.
     pub fn neighbour(self, p: usize, k: usize) -> Option<usize>
         ensures value { result ≡ hand self.width self.height p k }
-        ensures sound { (q : ℕ) → result ≡ Some q → (near self.width self.height p q ≡ true) × (q < points self.width self.height) }
+        ensures sound { elim result [ Some q ↦ (near self.width self.height p q ≡ true) × (q < points self.width self.height) | None ↦ Unit {0} ] }
         ensures ordered { (j o q : ℕ) → j < k → hand self.width self.height p j ≡ Some o → result ≡ Some q → o < q }
     {
         self.step(p, k)
@@ -108,10 +109,22 @@ impl Size {
         if p < self.points() { SLOTS } else { 0 }
     }
 
+    /// What `beside` gives for each number: worked out together, since a walk asks for all of them.
+    pub(crate) fn numbered(self, p: usize) -> [Option<usize>; SLOTS]
+        ensures { result ≡ hand self.width self.height p 0 ∷ hand self.width self.height p 1 ∷ hand self.width self.height p 2 ∷ hand self.width self.height p 3 ∷ [] }
+    {
+        [
+            self.beside(p, 0),
+            self.beside(p, 1),
+            self.beside(p, 2),
+            self.beside(p, 3),
+        ]
+    }
+
     /// What `beside` gives, with its facts.
     fn step(self, p: usize, k: usize) -> Option<usize>
         ensures value { result ≡ hand self.width self.height p k }
-        ensures sound { (q : ℕ) → result ≡ Some q → (near self.width self.height p q ≡ true) × (q < points self.width self.height) }
+        ensures sound { elim result [ Some q ↦ (near self.width self.height p q ≡ true) × (q < points self.width self.height) | None ↦ Unit {0} ] }
         ensures ordered { (j o q : ℕ) → j < k → hand self.width self.height p j ≡ Some o → result ≡ Some q → o < q }
     {
         self.beside(p, k)

@@ -9,5 +9,6 @@ pub mod Round
 pub mod SmallBoards
 pub mod Sound
 pub mod Square
+pub mod Surveyed
 pub mod Taking
 pub mod Union

@@ -4,3 +4,4 @@ pub mod Frame
 pub mod Promise
 pub mod Refused
 pub mod Round
+pub mod Surveyed

@@ -7,3 +7,4 @@ pub mod boards;
 pub mod judgement;
 pub mod statements;
 mod striking;
+mod survey;

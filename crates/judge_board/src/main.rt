@@ -3,42 +3,35 @@
 #![tactic(auto)]
 
 use chains::colour::Colour;
+use grid::refusal::Refusal;
+use judge::judgement::Marks;
+use notation::board::LENT_POINTS;
 use notation::judging::judge_board;
-use notation::lines::refusal_line;
 use notation::point_lines::marks_line;
 use std::io::Read;
 use std::process::ExitCode;
 
-/// How many points this program lends: a larger board is refused.
-const LENT_POINTS: usize = 81;
-
 fn main(rt: HostRuntime) -> anyhow::Result<ExitCode> {
-    if answer(&rt)? {
-        Ok(ExitCode::SUCCESS)
-    } else {
-        Ok(ExitCode::FAILURE)
-    }
-}
-
-/// Prints the answer or the refusal; says whether it was an answer.
-fn answer(rt: &HostRuntime) -> anyhow::Result<bool> {
+    // the same two lines in each program: a function over a closure would require that it may be called
     let mut bytes = Vec::new(rt.alloc());
     rt.stdin().read_to_end(&mut bytes)?;
-    Ok(print_marks(rt, &bytes, Colour::Black)? && print_marks(rt, &bytes, Colour::White)?)
+    for colour in [Colour::Black, Colour::White] {
+        match marks(&bytes, colour) {
+            Ok(marks) => rt.println(marks_line(rt.alloc(), colour, &marks.entries())?)?,
+            Err(refusal) => {
+                rt.println(refusal)?;
+                return Ok(ExitCode::FAILURE);
+            }
+        }
+    }
+    Ok(ExitCode::SUCCESS)
 }
 
-fn print_marks(rt: &HostRuntime, bytes: &[u8], colour: Colour) -> anyhow::Result<bool> {
+/// The marks of the stones of one colour.
+fn marks(bytes: &[u8], colour: Colour) -> Result<Marks, Refusal> {
     let mut cells = [0; LENT_POINTS];
     let mut chains = [0; LENT_POINTS];
     let mut rooms = [0; LENT_POINTS];
-    match judge_board(bytes, colour, &mut cells, &mut chains, &mut rooms) {
-        Ok(judged) => {
-            rt.println(marks_line(rt.alloc(), colour, &judged.marks.entries())?)?;
-            Ok(true)
-        }
-        Err(refusal) => {
-            rt.println(refusal_line(rt.alloc(), refusal)?)?;
-            Ok(false)
-        }
-    }
+    let judged = judge_board(bytes, colour, &mut cells, &mut chains, &mut rooms)?;
+    Ok(judged.marks)
 }

@@ -8,45 +8,27 @@ use chains::labels::MAX_POINTS;
 use grid::refusal::Refusal;
 use notation::board::board_length;
 use notation::judging::{judge_board, marked_stones};
-use notation::lines::{counts_line, refusal_line};
+use notation::lines::counts_line;
 use std::io::Read;
 use std::process::ExitCode;
 
 fn main(rt: HostRuntime) -> anyhow::Result<ExitCode> {
-    if answer(&rt)? {
-        Ok(ExitCode::SUCCESS)
-    } else {
-        Ok(ExitCode::FAILURE)
-    }
-}
-
-/// Prints a line for each board up to the first that is refused; says whether none was.
-fn answer(rt: &HostRuntime) -> anyhow::Result<bool> {
+    // the same two lines in each program: a function over a closure would require that it may be called
     let mut bytes = Vec::new(rt.alloc());
     rt.stdin().read_to_end(&mut bytes)?;
-    let mut start = 0;
-    while start < bytes.len() {
-        let rest = &bytes.as_slice()[start..];
-        let length = board_length(rest);
-        if !print_counts(rt, &rest[0..length])? {
-            return Ok(false);
+    let mut rest = bytes.as_slice();
+    while !rest.is_empty() {
+        let (board, after) = rest.split_at(board_length(rest));
+        match counts(board) {
+            Ok((black, white)) => rt.println(counts_line(rt.alloc(), black, white)?)?,
+            Err(refusal) => {
+                rt.println(refusal)?;
+                return Ok(ExitCode::FAILURE);
+            }
         }
-        start += length;
+        rest = after;
     }
-    Ok(true)
-}
-
-fn print_counts(rt: &HostRuntime, board: &[u8]) -> anyhow::Result<bool> {
-    match counts(board) {
-        Ok((black, white)) => {
-            rt.println(counts_line(rt.alloc(), black, white)?)?;
-            Ok(true)
-        }
-        Err(refusal) => {
-            rt.println(refusal_line(rt.alloc(), refusal)?)?;
-            Ok(false)
-        }
-    }
+    Ok(ExitCode::SUCCESS)
 }
 
 /// How many stones of black and of white are marked.

@@ -1,6 +1,6 @@
 -- A record's board that was written into lent memory is not turned away again.
-use Rattle.std.proofs.Common.{◌≡◌, ℕ, ◌%◌, ◌≤◌, true, eqb, List, ◌++◌, length, take, drop, None, sym, ap, ◌∙◌, arith, length-append}
-use Rattle.std.proofs.lemmas.List.{take_at, take_all, drop_at}
+use Rattle.std.proofs.Common.{◌≡◌, ℕ, ◌%◌, ◌≤◌, true, eqb, List, ◌++◌, length, take, None, sym, ap, ◌∙◌, arith, length-append}
+use Rattle.std.proofs.lemmas.List.{take_at, take_all}
 use Rattle.std.proofs.lemmas.Bool.Decides.{nat_tests}
 use Rattle.std.specs.List.{prefix_len}
 use Rattle.grid.specs.Grid.{points, near}
@@ -23,7 +23,3 @@ placed_fine w h cells rest moves e good even =
     let points_are : prefix_len is_point (take n (cells ++ rest)) ≡ prefix_len is_point cells = ap (prefix_len is_point) (take_at cells rest n e) in
     let calm_is : first_breathless n (near w h) (view n (cells ++ rest) Black) ≡ first_breathless n (near w h) (view n cells Black) = ap (λ (b : Board). first_breathless n (near w h) b) (placed_view n cells rest e) in
     grind (arith, nat_tests)
-
--- what follows the points is as it was
-pub placed_past : (n : ℕ) (cells rest : List ℕ) → length cells ≡ n → drop n (cells ++ rest) ≡ rest
-placed_past n cells rest e = drop_at cells rest n e

@@ -19,7 +19,7 @@ mark_lines n number marks =
     None))
 
 -- the first line on the points and the marks by which these are not audited
-unfoldable pub audit_points_refusal : List ℕ → ℕ → List ℕ → Option (ℕ × ℕ)
+abbrev pub audit_points_refusal : List ℕ → ℕ → List ℕ → Option (ℕ × ℕ)
 audit_points_refusal bytes number marks = points_lines bytes (mark_lines (size_points bytes) number marks)
 
 -- and before it the lines on the size and on memory

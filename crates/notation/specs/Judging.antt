@@ -1,7 +1,5 @@
 -- A board's judgement from its bytes. Assumes nothing: these are definitions.
-use Rattle.std.specs.Prelude.{◌≡◌, ℕ, ◌-◌, ◌≤◌, Bool, false, List, ◌++◌, length, get_or, drop, None, Option, ◌==◌, nat_le, slice_index_or}
-use Rattle.grid.specs.Refusals.{unless}
-use Rattle.grid.specs.Sizes.{side_fits}
+use Rattle.std.specs.Prelude.{◌≡◌, ℕ, ◌≤◌, Bool, false, List, ◌++◌, length, get_or, drop, None, Option, slice_index_or}
 use Rattle.grid.specs.declared.size.Size.{Size}
 use Rattle.chains.specs.Board.{Board}
 use Rattle.chains.specs.Labels.{ChainLabels}
@@ -9,19 +7,12 @@ use Rattle.chains.specs.Sized.{count_of, near_of, seen}
 use Rattle.chains.specs.declared.colour.Colour.{Colour}
 use Rattle.rooms.specs.Numbered.{RoomLabels}
 use Rattle.judge.specs.Promise.{Judges}
-use Rattle.notation.specs.Layout.{width_of, height_of, size_points, cells_of, cells_refusal}
+use Rattle.notation.specs.Layout.{width_of, height_of, size_points, cells_of, points_lines, lent_lines}
 use Rattle.notation.specs.declared.judging.Judged.{Judged}
 
 -- the first line of the list that turns the bytes of a board away, with so much memory lent for points, chains and rooms
 abbrev pub judge_bytes_refusal : List ℕ → ℕ → ℕ → ℕ → Option (ℕ × ℕ)
-judge_bytes_refusal bytes lent chains rooms =
-    unless (side_fits (width_of bytes)) (1, 0)
-    (unless (side_fits (height_of bytes)) (1, 1)
-    (unless (nat_le (size_points bytes) lent) (12, 0)
-    (unless (nat_le (size_points bytes) chains) (12, 1)
-    (unless (nat_le (size_points bytes) rooms) (12, 2)
-    (unless (length bytes - 2 == size_points bytes) (2, length bytes - 2)
-    (cells_refusal (width_of bytes) (height_of bytes) (cells_of bytes)))))))
+judge_bytes_refusal bytes lent chains rooms = lent_lines bytes lent chains rooms (points_lines bytes None)
 
 -- the marks are the judgement of that colour on the board that each side sees so, and the lent slices hold the chains and the rooms
 pub record JudgedSo (size : Size) (view : Colour → Board) (colour : Colour) (marked : List Bool) (chains rooms chains_after rooms_after : List ℕ) : Type 0 where

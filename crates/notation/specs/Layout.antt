@@ -30,16 +30,51 @@ cells_of bytes = drop 2 bytes
 abbrev pub calm_front : ℕ → ℕ → List ℕ → ℕ
 calm_front w h cells = first_breathless (points w h) (near w h) (view (points w h) cells Black)
 
--- the first line of the list that turns the points of a board away, of which there are as many as it asks for
-abbrev pub cells_refusal : ℕ → ℕ → List ℕ → Option (ℕ × ℕ)
-cells_refusal w h cells =
+-- the lines of the list on the points of a board, of which there are as many as it asks for, before the lines below them
+abbrev pub cells_lines : ℕ → ℕ → List ℕ → Option (ℕ × ℕ) → Option (ℕ × ℕ)
+cells_lines w h cells rest =
     unless (nat_le (points w h) (prefix_len is_point cells)) (3, 2 + prefix_len is_point cells)
     (unless (nat_le (points w h) (calm_front w h cells)) (4, calm_front w h cells)
-    None)
+    rest)
 
--- the first line of the list that turns the size away
+-- the first of them that turns the points away
+abbrev pub cells_refusal : ℕ → ℕ → List ℕ → Option (ℕ × ℕ)
+cells_refusal w h cells = cells_lines w h cells None
+
+-- the lines on the points, and before them the one on their count
+abbrev pub points_lines : List ℕ → Option (ℕ × ℕ) → Option (ℕ × ℕ)
+points_lines bytes rest =
+    unless (length bytes - 2 == size_points bytes) (2, length bytes - 2)
+    (cells_lines (width_of bytes) (height_of bytes) (cells_of bytes) rest)
+
+-- the lines on the size, before the lines below them
+abbrev pub size_lines : List ℕ → Option (ℕ × ℕ) → Option (ℕ × ℕ)
+size_lines bytes rest = unless (side_fits (width_of bytes)) (1, 0) (unless (side_fits (height_of bytes)) (1, 1) rest)
+
+-- the first of them that turns the size away
 abbrev pub size_refusal : List ℕ → Option (ℕ × ℕ)
-size_refusal bytes = unless (side_fits (width_of bytes)) (1, 0) (unless (side_fits (height_of bytes)) (1, 1) None)
+size_refusal bytes = size_lines bytes None
+
+-- the lines on the size and on the memory lent for points, before the lines below them
+abbrev pub read_lines : List ℕ → ℕ → Option (ℕ × ℕ) → Option (ℕ × ℕ)
+read_lines bytes lent rest = size_lines bytes (unless (nat_le (size_points bytes) lent) (12, 0) rest)
+
+-- and on the memory lent for chains and rooms
+abbrev pub lent_lines : List ℕ → ℕ → ℕ → ℕ → Option (ℕ × ℕ) → Option (ℕ × ℕ)
+lent_lines bytes lent chains rooms rest =
+    read_lines bytes lent
+    (unless (nat_le (size_points bytes) chains) (12, 1)
+    (unless (nat_le (size_points bytes) rooms) (12, 2)
+    rest))
+
+-- none of them applies to bytes of a board of that size
+pub record LentFor (bytes : List ℕ) (lent chains rooms : ℕ) (size : Size) : Type 0 where
+  pub width : size.width ≡ width_of bytes
+  pub height : size.height ≡ height_of bytes
+  pub lent_long : count_of size ≤ lent
+  pub chains_long : count_of size ≤ chains
+  pub rooms_long : count_of size ≤ rooms
+  pub no_line : (rest : Option (ℕ × ℕ)) → lent_lines bytes lent chains rooms rest ≡ rest
 
 -- how many bytes the first of several boards has
 abbrev pub first_length : List ℕ → ℕ
@@ -47,12 +82,7 @@ first_length bytes = cond (side_fits (width_of bytes) && side_fits (height_of by
 
 -- the first line of the list that turns the bytes of a board away, with so much memory lent for its points
 abbrev pub board_refusal : List ℕ → ℕ → Option (ℕ × ℕ)
-board_refusal bytes lent =
-    unless (side_fits (width_of bytes)) (1, 0)
-    (unless (side_fits (height_of bytes)) (1, 1)
-    (unless (nat_le (size_points bytes) lent) (12, 0)
-    (unless (length bytes - 2 == size_points bytes) (2, length bytes - 2)
-    (cells_refusal (width_of bytes) (height_of bytes) (cells_of bytes)))))
+board_refusal bytes lent = read_lines bytes lent (points_lines bytes None)
 
 -- a board of that size was read from the bytes: the lent memory holds its points, and what it held past them
 pub record BoardRead (bytes before : List ℕ) (size : Size) (after : List ℕ) : Type 0 where
@@ -61,22 +91,16 @@ pub record BoardRead (bytes before : List ℕ) (size : Size) (after : List ℕ) 
   pub height : size.height ≡ height_of bytes
   pub holds : after ≡ cells_of bytes ++ drop (size_points bytes) before
 
--- the lines of the list on the points of a board, of which there are as many as it asks for, before the lines below them
-abbrev pub cells_lines : ℕ → ℕ → List ℕ → Option (ℕ × ℕ) → Option (ℕ × ℕ)
-cells_lines w h cells rest =
-    unless (nat_le (points w h) (prefix_len is_point cells)) (3, 2 + prefix_len is_point cells)
-    (unless (nat_le (points w h) (calm_front w h cells)) (4, calm_front w h cells)
-    rest)
-
--- the lines on the points, and before them the one on their count
-abbrev pub points_lines : List ℕ → Option (ℕ × ℕ) → Option (ℕ × ℕ)
-points_lines bytes rest =
-    unless (length bytes - 2 == size_points bytes) (2, length bytes - 2)
-    (cells_lines (width_of bytes) (height_of bytes) (cells_of bytes) rest)
-
 -- the position was made of the points of a board of that size
-pub record MadeOf (size : Size) (cells : List ℕ) (position : Position) : Type 0 where
+pub record PointsOf (size : Size) (cells : List ℕ) (position : Position) : Type 0 where
   pub all : length cells ≡ count_of size
   pub good : count_of size ≤ prefix_len is_point cells
+  pub sized : position.size ≡ size
+  pub same : take (count_of size) position.cells ≡ cells
+
+-- and can stand
+pub record MadeOf (size : Size) (cells : List ℕ) (position : Position) : Type 0 where
+  pub all : length cells ≡ count_of size
+  pub no_line : (rest : Option (ℕ × ℕ)) → cells_lines size.width size.height cells rest ≡ rest
   pub sized : position.size ≡ size
   pub same : take (count_of size) position.cells ≡ cells

@@ -1,11 +1,7 @@
 -- The lines that the programs print. Assumes nothing: these are definitions.
 use Rattle.std.specs.Prelude.{ℕ, zero, suc, ◌*◌, Bool, cond, List, [], ◌∷◌, ◌++◌, map, take, drop, codes, decimal, nat_lt}
-use Rattle.grid.specs.Refusals.{number_of, place_of}
-use Rattle.grid.specs.declared.refusal.Refusal.{Refusal}
 use Rattle.chains.specs.Views.{stone_byte, is_point}
 use Rattle.chains.specs.declared.colour.Colour.{Colour}
-use Rattle.referee.specs.declared.outcome.Outcome.{Outcome}
-use Rattle.referee.specs.declared.outcome.Outcome.TheVariants.{ToMove, Over, Refused}
 
 -- a point is printed as it is written; a byte that is no point as a question mark
 abbrev pub shown : ℕ → ℕ
@@ -14,16 +10,6 @@ shown byte = cond (is_point byte) byte 63
 -- a row of the board; a row that is not there is empty
 abbrev pub row_text : ℕ → ℕ → List ℕ → ℕ → List ℕ
 row_text w h cells row = cond (nat_lt row h) (map shown (take w (drop (row * w) cells))) []
-
--- a refusal by its number and place
-abbrev pub refusal_text : Refusal → List ℕ
-refusal_text e = codes "refused " ++ (decimal (number_of e) ++ (codes " at " ++ decimal (place_of e)))
-
--- how a record ends: whose turn it is, that it is over, or the move that is refused
-abbrev pub outcome_text : Outcome → List ℕ
-outcome_text (ToMove colour) = stone_byte colour ∷ codes " to move"
-outcome_text Over = codes "over"
-outcome_text (Refused e) = codes "move " ++ (decimal (place_of e) ++ (codes " refused " ++ decimal (number_of e)))
 
 -- points one after another, a space before each
 abbrev pub points_text : List ℕ → List ℕ

@@ -2,12 +2,11 @@
 use Rattle.std.specs.Prelude.{◌≡◌, ℕ, ◌-◌, ◌%◌, ◌<◌, true, List, length, take, drop, None, Option, ◌==◌, nat_le, slice_index}
 use Rattle.grid.specs.Grid.{near}
 use Rattle.grid.specs.Refusals.{unless}
-use Rattle.grid.specs.Sizes.{side_fits}
 use Rattle.chains.specs.Views.{is_point, view}
 use Rattle.chains.specs.declared.colour.Colour.TheVariants.{Black}
 use Rattle.referee.specs.Moves.{moves_of}
 use Rattle.referee.specs.Rules.{Refereed}
-use Rattle.notation.specs.Layout.{width_of, height_of, size_points, cells_of, cells_refusal}
+use Rattle.notation.specs.Layout.{width_of, height_of, size_points, cells_of, cells_refusal, read_lines}
 use Rattle.notation.specs.declared.record.Answered.{Answered}
 
 -- the bytes of the points
@@ -21,12 +20,10 @@ record_moves bytes = drop (size_points bytes) (cells_of bytes)
 -- the first line of the list that turns the bytes of a record away, with so much memory lent for its points
 abbrev pub record_bytes_refusal : List ℕ → ℕ → Option (ℕ × ℕ)
 record_bytes_refusal bytes lent =
-    unless (side_fits (width_of bytes)) (1, 0)
-    (unless (side_fits (height_of bytes)) (1, 1)
-    (unless (nat_le (size_points bytes) lent) (12, 0)
+    read_lines bytes lent
     (unless (nat_le (size_points bytes) (length bytes - 2)) (2, length bytes - 2)
     (unless (length (record_moves bytes) % 2 == 0) (2, length (record_moves bytes))
-    (cells_refusal (width_of bytes) (height_of bytes) (record_cells bytes))))))
+    (cells_refusal (width_of bytes) (height_of bytes) (record_cells bytes))))
 
 -- a record was refereed from the bytes: the answer and the board left are those of the rules
 pub record RecordAnswered (bytes before : List ℕ) (answered : Answered) (after : List ℕ) : Type 0 where

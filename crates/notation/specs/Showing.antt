@@ -1,54 +1,31 @@
 -- How a stone is taken, from the bytes of a board. Assumes nothing: these are definitions.
-use Rattle.std.specs.Prelude.{◌≡◌, ℕ, ◌≤◌, not, List, ◌++◌, length, drop, Some, None, Option, nat_le}
+use Rattle.std.specs.Prelude.{◌≡◌, ℕ, not, List, ◌++◌, length, drop, Some, None, Option, nat_le}
 use Rattle.grid.specs.Grid.{points, near}
 use Rattle.grid.specs.Refusals.{listed, unless}
-use Rattle.grid.specs.Sizes.{side_fits}
 use Rattle.grid.specs.declared.refusal.Refusal.{Refusal}
 use Rattle.grid.specs.declared.refusal.Refusal.TheVariants.{NotShown}
 use Rattle.grid.specs.declared.refusal.Untaken.TheVariants.{Marked}
-use Rattle.grid.specs.declared.size.Size.{Size}
 use Rattle.chains.specs.Board.{none, mine, Board}
 use Rattle.chains.specs.Computed.{is_state}
 use Rattle.chains.specs.Labels.{ChainLabels}
-use Rattle.chains.specs.Sized.{count_of}
 use Rattle.chains.specs.Views.{view}
 use Rattle.chains.specs.declared.colour.Colour.{Colour}
 use Rattle.chains.specs.declared.colour.Colour.TheVariants.{Black}
 use Rattle.play.specs.Played.{Stays}
 use Rattle.rooms.specs.Numbered.{RoomLabels}
 use Rattle.capture.specs.Row.{RowShown}
-use Rattle.notation.specs.Layout.{width_of, height_of, size_points, cells_of, points_lines}
-
--- the lines of the list on the size and on the memory lent for points, chains and rooms, before the lines below them
-abbrev pub lent_lines : List ℕ → ℕ → ℕ → ℕ → Option (ℕ × ℕ) → Option (ℕ × ℕ)
-lent_lines bytes lent chains rooms rest =
-    unless (side_fits (width_of bytes)) (1, 0)
-    (unless (side_fits (height_of bytes)) (1, 1)
-    (unless (nat_le (size_points bytes) lent) (12, 0)
-    (unless (nat_le (size_points bytes) chains) (12, 1)
-    (unless (nat_le (size_points bytes) rooms) (12, 2)
-    rest))))
+use Rattle.notation.specs.Layout.{width_of, height_of, size_points, cells_of, points_lines, lent_lines}
 
 -- the lines of the list on the size and on all lent memory, moves among it, before the lines below them
 abbrev pub all_lent_lines : List ℕ → ℕ → ℕ → ℕ → ℕ → Option (ℕ × ℕ) → Option (ℕ × ℕ)
 all_lent_lines bytes lent chains rooms moves rest = lent_lines bytes lent chains rooms (unless (nat_le (size_points bytes) moves) (12, 3) rest)
-
--- none of them applies to bytes of a board of that size
-pub record LentFor (bytes : List ℕ) (lent chains rooms moves : ℕ) (size : Size) : Type 0 where
-  pub width : size.width ≡ width_of bytes
-  pub height : size.height ≡ height_of bytes
-  pub lent_long : count_of size ≤ lent
-  pub chains_long : count_of size ≤ chains
-  pub rooms_long : count_of size ≤ rooms
-  pub moves_long : count_of size ≤ moves
-  pub no_line : (rest : Option (ℕ × ℕ)) → all_lent_lines bytes lent chains rooms moves rest ≡ rest
 
 -- the line on a point without a stone: it is empty, as either side sees it
 abbrev pub stone_line : Board → ℕ → Option (ℕ × ℕ)
 stone_line b point = unless (not (is_state none (b point))) (11, 0) None
 
 -- the first line on the points by which no row is shown, but for the last, that the stone is marked
-unfoldable pub show_points_refusal : List ℕ → ℕ → Option (ℕ × ℕ)
+abbrev pub show_points_refusal : List ℕ → ℕ → Option (ℕ × ℕ)
 show_points_refusal bytes point = points_lines bytes (stone_line (view (size_points bytes) (cells_of bytes) Black) point)
 
 -- and before it the lines on the size and on memory

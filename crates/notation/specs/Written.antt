@@ -1,7 +1,7 @@
 -- Boards written as bytes, and why none were. Assumes nothing: these are definitions.
-use Rattle.std.specs.Prelude.{◌≡◌, ℕ, List, ◌∷◌, ◌++◌, length, take, drop, Some, None, Option, nat_le}
+use Rattle.std.specs.Prelude.{◌≡◌, ℕ, List, ◌∷◌, ◌++◌, length, take, drop, Some, None, Option, codes, nat_le}
 use Rattle.grid.specs.Grid.{points}
-use Rattle.grid.specs.Refusals.{listed, unless}
+use Rattle.grid.specs.Refusals.{listed, unless, refusal_text}
 use Rattle.notation.specs.Layout.{cells_of, size_points, cells_refusal}
 use Rattle.notation.specs.declared.failure.Failure.{Failure}
 use Rattle.notation.specs.declared.failure.Failure.TheVariants.{Refused, NoMemory}
@@ -10,6 +10,11 @@ use Rattle.notation.specs.declared.failure.Failure.TheVariants.{Refused, NoMemor
 abbrev pub FailsBy : Option (ℕ × ℕ) → Failure → Type 0
 FailsBy refusal (Refused e) = refusal ≡ Some (listed e)
 FailsBy refusal NoMemory = refusal ≡ None
+
+-- how it is printed
+abbrev pub failure_text : Failure → List ℕ
+failure_text (Refused e) = refusal_text e
+failure_text NoMemory = codes "out of memory"
 
 -- the first line of the list by which a board is not written
 abbrev pub write_refusal : ℕ → ℕ → List ℕ → Option (ℕ × ℕ)

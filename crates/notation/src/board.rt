@@ -1,23 +1,17 @@
 //! Reads a board from bytes into lent memory.
 
-ghost use Rattle.std.specs.Prelude.{◌≡◌, ℕ, ◌-◌, ◌<◌, ◌≤◌, true, false, ◌&&◌, ◌++◌, length, take, drop, Some, None, Ok, Err, Option, ◌==◌, slice_index};
-ghost use Rattle.std.specs.List.{prefix_len};
+ghost use Rattle.std.specs.Prelude.{◌≡◌, ℕ, ◌<◌, ◌≤◌, false, ◌++◌, length, drop, Some, None, Ok, Err, Option, ◌==◌, slice_index};
 ghost use Rattle.grid.specs.Grid.{points};
-ghost use Rattle.grid.specs.Sizes.{side_fits};
 ghost use Rattle.grid.specs.Refusals.{listed};
-ghost use Rattle.chains.specs.Breath.{first_breathless};
-ghost use Rattle.chains.specs.Sized.{count_of, near_of, seen};
-ghost use Rattle.chains.specs.Views.{is_point};
-ghost use Rattle.notation.specs.Written.{write_refusal};
-ghost use Rattle.notation.specs.Layout.{width_of, height_of, first_length, size_refusal, cells_lines, cells_refusal, board_refusal, BoardRead, MadeOf};
+ghost use Rattle.chains.specs.Sized.{count_of};
+ghost use Rattle.notation.specs.Layout.{width_of, height_of, cells_of, first_length, size_refusal, cells_lines, lent_lines, board_refusal, BoardRead, LentFor, PointsOf, MadeOf};
 
-use chains::colour::Colour;
-use chains::position::{Position, good_points};
-use grid::refusal::{Lent, Refusal, Side};
-use grid::size::{Extent, Size};
+use chains::position::{Position, SIZE_BYTES};
+use grid::refusal::{Lent, Refusal};
+use grid::size::Size;
 
-/// The bytes before the points: the width and the height.
-pub(crate) const SIZE_BYTES: usize = 2;
+/// How many points the programs that read one board or record lend memory for: a larger board is refused.
+pub const LENT_POINTS: usize = 81;
 
 /// Reads a board into lent memory, or says why not and leaves that memory as it was.
 pub fn read_board(bytes: &[u8], lent: &mut [u8]) -> Result<Size, Refusal>
@@ -30,10 +24,11 @@ pub fn read_board(bytes: &[u8], lent: &mut [u8]) -> Result<Size, Refusal>
     let Some(points) = enough(size, lent.len()) else {
         return Err(Refusal::TooShort(Lent::Points));
     };
-    let Some(cells) = exactly(bytes, points) else {
-        return Err(Refusal::Count(bytes.len().saturating_sub(SIZE_BYTES)));
+    let rest = after_size(bytes);
+    let Some(cells) = exactly(rest, points) else {
+        return Err(Refusal::Count(rest.len()));
     };
-    let cells = sound(size, cells)?;
+    standing(size, cells)?;
     place(cells, lent);
     Ok(size)
 }
@@ -53,26 +48,14 @@ pub(crate) fn read_size(bytes: &[u8]) -> Result<Size, Refusal>
       | Err e ↦ size_refusal bytes.now ≡ Some (listed e)
     ] }
 {
-    let Some(width) = side(bytes, 0) else {
-        return Err(Refusal::BadSide(Side::Width));
-    };
-    let Some(height) = side(bytes, 1) else {
-        return Err(Refusal::BadSide(Side::Height));
-    };
-    Ok(Size::new(width, height))
+    Size::try_from((size_byte(bytes, 0), size_byte(bytes, 1)))
 }
 
-/// The side whose length stands at that place; a byte that is missing is no length.
-fn side(bytes: &[u8], place: usize) -> Option<Extent>
-    ensures { elim result [
-      | Some e ↦ (side_fits (slice_index bytes.now place) ≡ true) × (e.points ≡ slice_index bytes.now place)
-      | None ↦ side_fits (slice_index bytes.now place) ≡ false
-    ] }
+/// A byte of the size; one that is missing counts as 0, which is no length of a side.
+fn size_byte(bytes: &[u8], place: usize) -> u8
+    ensures { result ≡ slice_index bytes.now place }
 {
-    if place >= bytes.len() {
-        return None;
-    }
-    Extent::new(bytes[place])
+    bytes.get(place).copied().unwrap_or(0)
 }
 
 /// How many points the board has, if so much memory is lent.
@@ -83,99 +66,73 @@ pub(crate) fn enough(size: Size, lent: usize) -> Option<usize>
     ] }
 {
     let points = size.points();
-    if points > lent { None } else { Some(points) }
+    (points <= lent).then_some(points)
 }
 
-/// The bytes after the size, if they are exactly so many.
-pub(crate) fn exactly(bytes: &[u8], points: usize) -> Option<&[u8]>
-    requires { 1 ≤ points }
+/// The size that the first two bytes give, if so much memory is lent for points, chains and rooms.
+pub(crate) fn lent_size(
+    bytes: &[u8],
+    lent: usize,
+    chains: usize,
+    rooms: usize,
+) -> Result<Size, Refusal>
     ensures { elim result [
-      | Some cells ↦ (cells.now ≡ drop 2 bytes.now) × (length cells.now ≡ points) × (length bytes.now - 2 ≡ points)
-      | None ↦ (length bytes.now - 2 == points) ≡ false
+      | Ok size ↦ LentFor bytes.now lent chains rooms size
+      | Err e ↦ (rest : Option (ℕ × ℕ)) → lent_lines bytes.now lent chains rooms rest ≡ Some (listed e)
     ] }
 {
-    if bytes.len() < SIZE_BYTES {
-        return None;
-    }
-    let cells = &bytes[SIZE_BYTES..];
-    if cells.len() == points {
-        Some(cells)
-    } else {
-        None
-    }
+    let size = read_size(bytes)?;
+    let Some(_) = enough(size, lent) else {
+        return Err(Refusal::TooShort(Lent::Points));
+    };
+    let Some(_) = enough(size, chains) else {
+        return Err(Refusal::TooShort(Lent::Chains));
+    };
+    let Some(_) = enough(size, rooms) else {
+        return Err(Refusal::TooShort(Lent::Rooms));
+    };
+    Ok(size)
 }
 
-/// The bytes, if all of them are good.
-fn whole(cells: &[u8], good: usize) -> Option<&[u8]>
+/// The bytes after the size.
+pub(crate) fn after_size(bytes: &[u8]) -> &[u8]
+    ensures { result.now ≡ cells_of bytes.now }
+{
+    bytes.get(SIZE_BYTES..).unwrap_or(&[])
+}
+
+/// The bytes, if they are exactly so many.
+pub(crate) fn exactly(rest: &[u8], points: usize) -> Option<&[u8]>
     ensures { elim result [
-      | Some all ↦ (all.now ≡ cells.now) × (length cells.now ≤ good)
-      | None ↦ good < length cells.now
+      | Some cells ↦ (cells.now ≡ rest.now) × (length rest.now ≡ points)
+      | None ↦ (length rest.now == points) ≡ false
     ] }
 {
-    if good < cells.len() {
-        None
-    } else {
-        Some(cells)
-    }
+    (rest.len() == points).then_some(rest)
 }
 
-/// How many points, from the first on, have no stone without a liberty.
-fn calm_front(size: Size, cells: &[u8]) -> usize
-    requires all { length cells.now ≡ count_of size }
-    requires good { length cells.now ≤ prefix_len is_point cells.now }
-    ensures { result ≡ first_breathless (count_of size) (near_of size) (seen size cells.now Colour.Black) }
-{
-    match Position::new(size, cells) {
-        Ok(position) => match position.first_breathless() {
-            Some(p) => p,
-            None => cells.len(),
-        },
-        // never: the bytes are points
-        Err(_) => cells.len(),
-    }
-}
-
-/// The position of as many bytes as the size asks for, if all of them are points.
-pub(crate) fn position_of(size: Size, cells: &[u8]) -> Result<Position, Refusal>
+/// The position of as many bytes as the size asks for, if they are points. Whether it can stand is for the call on it to say.
+pub(crate) fn points_of(size: Size, cells: &[u8]) -> Result<Position, Refusal>
     requires { length cells.now ≡ count_of size }
     ensures { elim result [
-      | Ok position ↦ MadeOf size cells.now position
+      | Ok position ↦ PointsOf size cells.now position
       | Err e ↦ (rest : Option (ℕ × ℕ)) → cells_lines size.width size.height cells.now rest ≡ Some (listed e)
     ] }
 {
     Position::new(size, cells)
 }
 
-/// The points, if they are points that can stand.
-pub(crate) fn sound(size: Size, cells: &[u8]) -> Result<&[u8], Refusal>
+/// The position of as many bytes as the size asks for, if they are points that can stand.
+pub(crate) fn standing(size: Size, cells: &[u8]) -> Result<Position, Refusal>
     requires { length cells.now ≡ count_of size }
     ensures { elim result [
-      | Ok same ↦ (cells_refusal size.width size.height cells.now ≡ None) × (same.now ≡ cells.now)
-      | Err e ↦ cells_refusal size.width size.height cells.now ≡ Some (listed e)
+      | Ok position ↦ MadeOf size cells.now position
+      | Err e ↦ (rest : Option (ℕ × ℕ)) → cells_lines size.width size.height cells.now rest ≡ Some (listed e)
     ] }
 {
-    let good = good_points(cells);
-    let Some(cells) = whole(cells, good) else {
-        return Err(Refusal::BadByte(SIZE_BYTES + good));
-    };
-    let calm = calm_front(size, cells);
-    let Some(cells) = whole(cells, calm) else {
-        return Err(Refusal::NoLiberty(calm));
-    };
-    Ok(cells)
-}
-
-/// The points of a board of that size, if there are enough of them and they can stand.
-pub(crate) fn all_good(size: Size, cells: &[u8]) -> Result<&[u8], Refusal>
-    ensures { elim result [
-      | Ok front ↦ (write_refusal size.width size.height cells.now ≡ None) × (front.now ≡ take (points size.width size.height) cells.now)
-      | Err e ↦ write_refusal size.width size.height cells.now ≡ Some (listed e)
-    ] }
-{
-    let Some(points) = enough(size, cells.len()) else {
-        return Err(Refusal::TooShort(Lent::Points));
-    };
-    sound(size, &cells[0..points])
+    let position = Position::new(size, cells)?;
+    position.stands()?;
+    Ok(position)
 }
 
 /// How many bytes, from the first on, are those of the first of several boards: its size and its points, or all where these are

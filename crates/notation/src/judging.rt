@@ -1,20 +1,17 @@
 //! Judges a board from its bytes.
 
-ghost use Rattle.std.specs.Prelude.{◌≡◌, ◌≤◌, Bool, ◌++◌, length, Some, None, Ok, Err, count_by};
+ghost use Rattle.std.specs.Prelude.{◌≡◌, Bool, length, Some, Ok, Err, count_by};
 ghost use Rattle.grid.specs.Refusals.{listed};
-ghost use Rattle.chains.specs.Sized.{count_of, seen};
-ghost use Rattle.notation.specs.Judging.{judge_bytes_refusal, JudgedSo, BoardJudged};
-ghost use Rattle.notation.specs.Layout.{cells_refusal};
+ghost use Rattle.notation.specs.Judging.{judge_bytes_refusal, BoardJudged};
 
-use crate::board::{SIZE_BYTES, enough, exactly, place, read_size, sound};
+use crate::board::{after_size, exactly, lent_size, place, points_of};
 use chains::colour::Colour;
-use chains::position::Position;
-use grid::refusal::{Lent, Refusal};
+use grid::refusal::Refusal;
 use grid::size::Size;
 use judge::judgement::{Marks, judge};
 
 /// The size of a judged board, and the marks.
-#[derive(Clone, Copy)]
+#[derive(Clone, Copy, PartialEq, Eq, Debug)]
 pub struct Judged {
     pub size: Size,
     pub marks: Marks,
@@ -35,63 +32,21 @@ pub fn judge_board(
           × (lent.new ≡ lent.old) × (chains.new ≡ chains.old) × (rooms.new ≡ rooms.old)
     ] }
 {
-    let size = read_size(bytes)?;
-    let Some(points) = enough(size, lent.len()) else {
-        return Err(Refusal::TooShort(Lent::Points));
+    // each check hands on its value, in the order of the list
+    let size = lent_size(bytes, lent.len(), chains.len(), rooms.len())?;
+    let rest = after_size(bytes);
+    let Some(cells) = exactly(rest, size.points()) else {
+        return Err(Refusal::Count(rest.len()));
     };
-    let Some(_) = enough(size, chains.len()) else {
-        return Err(Refusal::TooShort(Lent::Chains));
-    };
-    let Some(_) = enough(size, rooms.len()) else {
-        return Err(Refusal::TooShort(Lent::Rooms));
-    };
-    let Some(cells) = exactly(bytes, points) else {
-        return Err(Refusal::Count(bytes.len().saturating_sub(SIZE_BYTES)));
-    };
-    let cells = sound(size, cells)?;
-    let marks = judge_cells(size, cells, colour, chains, rooms);
+    let position = points_of(size, cells)?;
+    let marks = judge(position, colour, chains, rooms)?;
     place(cells, lent);
     Ok(Judged { size, marks })
-}
-
-/// The judgement on points that can stand.
-fn judge_cells(
-    size: Size,
-    cells: &[u8],
-    colour: Colour,
-    chains: &mut [u16],
-    rooms: &mut [u16],
-) -> Marks
-    requires all { length cells.now ≡ count_of size }
-    requires good { cells_refusal size.width size.height cells.now ≡ None }
-    requires chains { count_of size ≤ length chains.old }
-    requires rooms { count_of size ≤ length rooms.old }
-    ensures { JudgedSo size (seen size cells.now) colour result.marked chains.old rooms.old chains.new rooms.new }
-{
-    match Position::new(size, cells) {
-        Ok(position) => match judge(position, colour, chains, rooms) {
-            Ok(marks) => marks,
-            Err(_) => unreachable(),
-        },
-        Err(_) => unreachable(),
-    }
 }
 
 /// How many stones are marked.
 pub fn marked_stones(marks: Marks) -> usize
     ensures { result ≡ count_by (λ (b : Bool). b) marks.marked }
 {
-    count_marks(&marks.entries())
-}
-
-fn count_marks(marked: &[bool]) -> usize
-    ensures { result ≡ count_by (λ (b : Bool). b) marked.now }
-{
-    let mut count = 0;
-    for mark in marked {
-        if *mark {
-            count += 1;
-        }
-    }
-    count
+    marks.entries().iter().filter(|mark| **mark).count()
 }

@@ -1,12 +1,11 @@
 //! Writes a board as bytes, and reads what was written.
 
-ghost use Rattle.std.specs.Prelude.{◌≡◌, ◌≤◌, ◌∷◌, ◌++◌, length, take, drop, Some, None, Ok, Err};
+ghost use Rattle.std.specs.Prelude.{◌≡◌, ◌≤◌, ◌∷◌, ◌++◌, length, take, drop, None, Ok, Err};
 ghost use Rattle.grid.specs.Grid.{points};
-ghost use Rattle.grid.specs.Refusals.{listed};
-ghost use Rattle.notation.specs.Layout.{board_refusal, size_points, cells_of, BoardRead};
+ghost use Rattle.notation.specs.Layout.{board_refusal, size_points, cells_of};
 ghost use Rattle.notation.specs.Written.{FailsBy, LeftBy, write_refusal, board_bytes, reread_refusal};
 
-use crate::board::{all_good, enough, read_board};
+use crate::board::{enough, read_board, standing};
 use crate::failure::Failure;
 use grid::refusal::{Lent, Refusal};
 use grid::size::Size;
@@ -19,7 +18,10 @@ pub fn write_board(heap: Global, size: Size, cells: &[u8]) -> Result<Vec<u8>, Fa
       | Err f ↦ FailsBy (write_refusal size.width size.height cells.now) f
     ] }
 {
-    let points = all_good(size, cells)?;
+    let Some(points) = cells.get(0..size.points()) else {
+        return Err(Failure::Refused(Refusal::TooShort(Lent::Points)));
+    };
+    standing(size, points)?;
     let mut bytes = Vec::new(heap);
     bytes.extend_from_slice(&[size.width() as u8, size.height() as u8])?;
     bytes.extend_from_slice(points)?;
@@ -52,18 +54,6 @@ pub fn rewrite(heap: Global, bytes: &[u8], lent: &mut [u8]) -> Result<Vec<u8>, F
           × LeftBy f bytes.now lent.old lent.new
     ] }
 {
-    let size = read_known(bytes, lent)?;
+    let size = read_board(bytes, lent)?;
     write_board(heap, size, lent)
-}
-
-/// Reads a board; what was read is what is written as these bytes.
-fn read_known(bytes: &[u8], lent: &mut [u8]) -> Result<Size, Refusal>
-    ensures { elim result [
-      | Ok size ↦ BoardRead bytes.now lent.old size lent.new
-          × (write_refusal size.width size.height lent.new ≡ None)
-          × (board_bytes size.width size.height lent.new ≡ bytes.now)
-      | Err e ↦ (board_refusal bytes.now (length lent.old) ≡ Some (listed e)) × (lent.new ≡ lent.old)
-    ] }
-{
-    read_board(bytes, lent)
 }

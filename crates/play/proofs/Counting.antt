@@ -1,45 +1,46 @@
 -- Counting the stones that were taken.
-use Rattle.std.proofs.Common.{◌≡◌, ℕ, zero, suc, ◌+◌, ◌<◌, ◌≤◌, Bool, true, false, ◌&&◌, eqb, ◌⊎◌, List, get_or, sym, refl, ap, ◌∙◌, inl, inr, add-one, arith}
-use Rattle.std.proofs.lemmas.Bool.{both_ways, cases_Bool, eqb-true, eq-eqb, lt-ltb}
-use Rattle.grid.specs.Grid.{points}
+use Rattle.std.proofs.Common.{◌≡◌, ℕ, zero, suc, ◌+◌, ◌<◌, ◌≤◌, Bool, true, false, ◌&&◌, eqb, ◌⊎◌, List, length, get_or, take, sym, refl, ap, ◌∙◌, subst, inl, inr, add-one, arith}
+use Rattle.std.specs.List.{count_by, zip}
+use Rattle.std.proofs.lemmas.Bool.{both_ways, cases_Bool, cases_lt, eqb-true, eq-eqb, lt-ltb}
+use Rattle.std.proofs.lemmas.List.{take_all}
+use Rattle.std.proofs.lemmas.List.Sums.{count_by_more_yes, count_by_more_no}
+use Rattle.std.proofs.lemmas.Slice.Zip.{length-zip, get_or-zip}
+use Rattle.grid.specs.declared.size.Size.{Size}
 use Rattle.chains.specs.Board.{pick, none, mine, yours}
 use Rattle.chains.specs.Computed.{is_state, one_if, count}
+use Rattle.chains.specs.Sized.{count_of}
 use Rattle.chains.specs.Views.{stone_byte, other, is_point, view}
 use Rattle.chains.specs.declared.colour.Colour.{Colour}
-use Rattle.chains.proofs.Below.{count_bound}
+use Rattle.chains.specs.declared.colour.Colour.TheVariants.{Black, White}
+use Rattle.chains.specs.declared.position.Position.{Position}
 use Rattle.chains.proofs.States.{is_state_true, state_is}
 use Rattle.chains.proofs.Views.{empty_byte, byte_none, view_none}
-use Rattle.play.specs.Steps.{WritesPoints, byte_taken, captures}
-use Rattle.play.specs.Stone.{faced, is_taken}
+use Rattle.play.specs.Steps.{byte_taken}
+use Rattle.play.specs.Stone.{is_taken}
 
--- so many bytes of stones below k became those of empty points
-pub record Counting (gone : ℕ) (before after : List ℕ) (taken k : ℕ) : Type 0 where
-  pub number : taken ≡ count (λ q. byte_taken gone (get_or before q 0) (get_or after q 0)) k
-
--- there are no points below the first
-pub counting_start : {gone : ℕ} {before after : List ℕ} → Counting gone before after 0 0
+-- the elements that pass, by their indices
+count_front : {X : Type 0} (p : X → Bool) (d : X) (xs : List X) (n : ℕ) → n ≤ length xs → count_by p (take n xs) ≡ count (λ q. p (get_or xs q d)) n
 unfolding count
-counting_start = record { number = refl }
-
--- at most as many as there are points
-pub counting_few : {gone : ℕ} {before after : List ℕ} {taken k : ℕ} → Counting gone before after taken k → taken ≤ k
-counting_few {gone} {before} {after} {taken} {k} c = omega (arith, c.number, count_bound (λ q. byte_taken gone (get_or before q 0) (get_or after q 0)) k)
-
--- one point more
-pub counting_step : {gone : ℕ} {before after : List ℕ} {taken k : ℕ} → Counting gone before after taken k → byte_taken gone (get_or before k 0) (get_or after k 0) ≡ true → Counting gone before after (taken + 1) (k + 1)
-unfolding count
-counting_step {k = k} c e = record { number = rw (add-one k) (rw e (omega (arith, c.number))) }
-
--- and one at which no stone was taken
-pub counting_skip : {gone : ℕ} {before after : List ℕ} {taken k : ℕ} → Counting gone before after taken k → byte_taken gone (get_or before k 0) (get_or after k 0) ≡ false → Counting gone before after taken (k + 1)
-unfolding count
-counting_skip {k = k} c e = record { number = rw (add-one k) (rw e (omega (arith, c.number))) }
+count_front p d xs zero l = refl
+count_front p d xs (suc n) l = rw (← add-one n) (elim (cases_Bool (p (get_or xs n d))) [
+  | inl e ↦ count_by_more_yes p xs n d (omega arith) e ∙ rw e (omega (arith, count_front p d xs n (omega arith)))
+  | inr e ↦ count_by_more_no p xs n d (omega arith) e ∙ rw e (omega (arith, count_front p d xs n (omega arith)))
+])
 
 -- tests that agree below n pass as many points
-pub count_same : (t u : ℕ → Bool) (n : ℕ) → ((p : ℕ) → p < n → t p ≡ u p) → count t n ≡ count u n
+count_same : (t u : ℕ → Bool) (n : ℕ) → ((p : ℕ) → p < n → t p ≡ u p) → count t n ≡ count u n
 unfolding count
 count_same t u zero f = refl
 count_same t u (suc n) f = rw (f n (omega arith)) (ap (λ (k : ℕ). one_if (u n) + k) (count_same t u n (λ p l. f p (omega arith))))
+
+-- from n on no point passes
+count_beyond : (t : ℕ → Bool) (n m : ℕ) → n ≤ m → ((p : ℕ) → n ≤ p → p < m → t p ≡ false) → count t m ≡ count t n
+unfolding count
+count_beyond t n zero l f = let e : n ≡ zero = omega arith in rw e refl
+count_beyond t n (suc m) l f = elim (cases_lt m n) [
+  | inl k ↦ let e : n ≡ suc m = omega arith in rw e refl
+  | inr k ↦ rw (f m k (omega arith)) (omega (arith, count_beyond t n m k (λ p a b. f p a (omega arith))))
+]
 
 picked_mine : (x y : Bool) → x ≡ is_state mine (pick x mine (pick y yours none))
 picked_mine true y = refl
@@ -62,11 +63,37 @@ none_test n bytes c p l g = join (cases_Bool (is_state none (view n bytes c p)))
       | inr f ↦ f ∙ sym e
     ]
 
--- then that is the number of stones that left the board
-pub counted : (w h : ℕ) (before after : List ℕ) (colour : Colour) {taken k : ℕ} → k ≡ points w h → Counting (stone_byte (other colour)) before after taken k →
-    WritesPoints w h after → taken ≡ captures w h before after colour
-counted w h before after colour {taken} {k} all c good =
-    c.number ∙ (ap (count (λ q. byte_taken (stone_byte (other colour)) (get_or before q 0) (get_or after q 0))) all ∙ count_same
-    (λ q. byte_taken (stone_byte (other colour)) (get_or before q 0) (get_or after q 0)) (λ p. is_taken (faced w h before colour p) (faced w h after colour p)) (points w h)
-    (λ p l. ap (λ (x : Bool). x && eqb (get_or after p 0) 46) (mine_test (points w h) before (other colour) p l)
-    ∙ ap (λ (x : Bool). is_state mine (faced w h before colour p) && x) (none_test (points w h) after (other colour) p l (good p l))))
+empty_no_stone : (c : Colour) → eqb 46 (stone_byte c) ≡ false
+empty_no_stone Black = refl
+empty_no_stone White = refl
+
+-- the bytes of stones of that colour that became those of empty points are its stones that left the board
+pub counted : (before after : Position) (colour : Colour) → after.size ≡ before.size → length before.cells ≡ 361 → length after.cells ≡ 361 →
+    count_by (λ (p : ℕ × ℕ). byte_taken (stone_byte colour) p.0 p.1) (zip before.cells after.cells)
+    ≡ count (λ p. is_taken (view (count_of before.size) before.cells colour p) (view (count_of before.size) after.cells colour p)) (count_of before.size)
+counted before after colour s l m =
+    ap (count_by pair_taken) (sym (take_all 361 pairs (omega (arith, long))))
+    ∙ count_front pair_taken (0, 0) pairs 361 (omega (arith, long))
+    ∙ count_same (λ q. pair_taken (get_or pairs q (0, 0))) at_point 361 (λ q k. ap pair_taken (get_or-zip before.cells after.cells q (0, 0) (omega arith) (omega arith)))
+    ∙ count_beyond at_point n 361 before.size.few.1 (λ q k o. rw (before.past q k o, empty_no_stone colour) refl)
+    ∙ count_same at_point (λ p. is_taken (view n before.cells colour p) (view n after.cells colour p)) n
+    (λ p k. ap (λ (x : Bool). x && eqb (get_or after.cells p 0) 46) (mine_test n before.cells colour p k)
+    ∙ ap (λ (x : Bool). is_state mine (view n before.cells colour p) && x) (none_test n after.cells colour p k (good p k)))
+  where
+    n : ℕ
+    n = count_of before.size
+
+    pairs : List (ℕ × ℕ)
+    pairs = zip before.cells after.cells
+
+    pair_taken : ℕ × ℕ → Bool
+    pair_taken p = byte_taken (stone_byte colour) p.0 p.1
+
+    at_point : ℕ → Bool
+    at_point q = byte_taken (stone_byte colour) (get_or before.cells q 0) (get_or after.cells q 0)
+
+    long : length pairs ≡ 361
+    long = length-zip before.cells after.cells ∙ rw (l, m) refl
+
+    good : (p : ℕ) → p < n → is_point (get_or after.cells p 0) ≡ true
+    good = subst (λ (z : Size). (p : ℕ) → p < count_of z → is_point (get_or after.cells p 0) ≡ true) s after.board

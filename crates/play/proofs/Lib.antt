@@ -2,7 +2,8 @@ pub mod Moves
 pub mod Rows
 pub mod Statements
 pub mod Refusing
-pub mod Settling
+pub mod Making
 pub mod Counting
 pub mod Outcome
+pub mod Lent
 pub mod Reasons

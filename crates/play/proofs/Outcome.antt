@@ -1,26 +1,35 @@
--- The board that is left after a stone: byte for byte, and standing if the board before stood.
-use Rattle.std.proofs.Common.{◌≡◌, ℕ, ◌<◌, ◌≤◌, true, false, ◌⊎◌, List, ◌++◌, length, get_or, take, drop, sym, refl, ap, ◌∙◌, subst, ap₂, inl, inr}
-use Rattle.std.proofs.lemmas.List.{drop_at, get_or_append_left, get_or-take, length-take-le}
+-- The position that is left after a stone: byte for byte, and standing if the position before stood.
+use Rattle.std.proofs.Common.{◌≡◌, ℕ, ◌+◌, ◌<◌, ◌≤◌, Bool, true, false, ◌⊎◌, List, length, get_or, drop, sym, refl, ap, ◌∙◌, subst, inl, inr, arith, length-drop}
+use Rattle.std.specs.List.{count_by, zip}
+use Rattle.std.specs.Option.{is_some}
+use Rattle.std.proofs.lemmas.List.{ext_get_or, get_or-drop}
 use Rattle.grid.specs.Grid.{points, near}
 use Rattle.grid.specs.declared.refusal.Refusal.TheVariants.{Suicide}
+use Rattle.grid.specs.declared.size.Size.{Size}
 use Rattle.grid.proofs.Square.{graph}
 use Rattle.chains.specs.Board.{State, none, mine, yours, Board}
-use Rattle.chains.specs.Computed.{count, breathing}
+use Rattle.chains.specs.Breath.{BreathesAt}
+use Rattle.chains.specs.Changed.{cells_with, kept_byte}
+use Rattle.chains.specs.Computed.{breathing}
+use Rattle.chains.specs.Sized.{count_of, near_of, seen}
 use Rattle.chains.specs.Stands.{Stands}
-use Rattle.chains.specs.Views.{other, is_point, state_of, view}
+use Rattle.chains.specs.Views.{stone_byte, other, is_point, standing, state_of, view}
 use Rattle.chains.specs.declared.colour.Colour.{Colour}
 use Rattle.chains.specs.declared.colour.Colour.TheVariants.{Black, White}
+use Rattle.chains.specs.declared.position.Position.{Position}
 use Rattle.chains.proofs.Breath.{turned, breathes_turned, view_turned}
 use Rattle.chains.proofs.Chain.{breathing_breathes}
 use Rattle.chains.proofs.Square.{stands_stand, stand_stands}
 use Rattle.chains.proofs.States.{Kind, is_none, is_mine, is_yours, kind, none_mine, none_yours}
 use Rattle.chains.proofs.Views.{state_byte, none_byte, empty_byte}
+use Rattle.play.specs.After.{after}
 use Rattle.play.specs.Played.{Played}
-use Rattle.play.specs.Steps.{PointsRead, Free, Settled, settled_board}
-use Rattle.play.specs.Stone.{byte_of, faced, made, is_taken, StoneRefused, StonePlayed}
+use Rattle.play.specs.Steps.{PointsRead, Free, byte_taken}
+use Rattle.play.specs.Stone.{byte_of, faced, made, StoneRefused, StonePlayed}
+use Rattle.play.proofs.Counting.{counted}
 use Rattle.play.proofs.Moves.{after_played, goes_on}
-use Rattle.play.proofs.Refusing.{free_none, suicide, not_refused_stone}
-use Rattle.play.proofs.Settling.{view_same, view_on_board, settled_made}
+use Rattle.play.proofs.Refusing.{position_read, stone_stands, free_none, suicide, not_refused_stone}
+use Rattle.play.proofs.Making.{view_on_board, StoneMade, stone_made, stone_breath}
 
 turned_twice : (s : State) → turned (turned s) ≡ s
 turned_twice none = refl
@@ -72,36 +81,70 @@ point_byte c byte g = join (kind (state_of c byte))
     join (is_mine z) = state_byte c mine byte (λ e. none_mine e refl) z ∙ sym (ap (byte_of c) z)
     join (is_yours z) = state_byte c yours byte (λ e. none_yours e refl) z ∙ sym (ap (byte_of c) z)
 
+-- past the board two positions of one size are empty
+past_same : (a b : Position) → a.size ≡ b.size → length a.cells ≡ 361 → length b.cells ≡ 361 → drop (count_of b.size) a.cells ≡ drop (count_of b.size) b.cells
+past_same a b s l m = ext_get_or 0 (drop n a.cells) (drop n b.cells) (omega (arith, length-drop n a.cells, length-drop n b.cells))
+    (λ i o. let k : n + i < 361 = omega (arith, length-drop n a.cells) in
+    get_or-drop n a.cells i 0 ∙ a.past (n + i) (subst (λ (z : Size). count_of z ≤ n + i) (sym s) (omega arith)) k ∙ sym (get_or-drop n b.cells i 0 ∙ b.past (n + i) (omega arith) k))
+  where
+    n : ℕ
+    n = count_of b.size
+
+-- the point is free, and the position with the stone was made and looked at
+pub record StoneLooked (before : Position) (colour : Colour) (point : ℕ) (left : Position) (breathes : Bool) : Type 0 where
+  pub read : PointsRead before.size.width before.size.height before.cells before.cells
+  pub free : Free before.size.width before.size.height before.cells point
+  pub made : StoneMade before colour point left
+  pub breath : breathes ≡ breathing (count_of before.size) (near_of before.size) (after (count_of before.size) (near_of before.size) (seen before.size before.cells (other colour)) point) yours point
+
+-- so it is on an empty point
+pub stone_looked : (before placed left : Position) (colour gone : Colour) {point : ℕ} {breathes : Bool} → length before.cells ≡ 361 → point < count_of before.size →
+    is_some (standing (count_of before.size) before.cells point) ≡ false → gone ≡ other colour →
+    placed.size ≡ before.size → placed.cells ≡ cells_with (count_of before.size) before.cells point colour → left.size ≡ placed.size →
+    ((p : ℕ) → p < 361 → get_or left.cells p 0 ≡ kept_byte (stone_byte gone) (get_or placed.cells p 0)
+    (breathing (count_of placed.size) (near_of placed.size) (seen placed.size placed.cells gone) mine p)) →
+    ((c : Colour) → BreathesAt (near_of left.size) (seen left.size left.cells c) point breathes) → StoneLooked before colour point left breathes
+stone_looked before placed left colour gone {point} long l e g s p t w b = record { read = read; free = free; made = stone; breath = stone_breath stone (free_none read free (other colour)) b }
+  where
+    read : PointsRead before.size.width before.size.height before.cells before.cells
+    read = position_read before (omega (arith, before.size.few.1))
+
+    free : Free before.size.width before.size.height before.cells point
+    free = record { inside = l; empty = sym (stone_stands (count_of before.size) before.cells point l) ∙ e }
+
+    stone : StoneMade before colour point left
+    stone = stone_made placed gone l (omega (arith, before.size.few.1)) g s p t w
+
 -- the stone is played
-pub stone_played : {w h : ℕ} {bytes before cells left : List ℕ} {colour : Colour} {point turn taken : ℕ} → PointsRead w h bytes before → Free w h before point →
-    Settled w h before colour point cells taken → points w h ≤ length cells → left ≡ take (points w h) cells ++ drop (points w h) bytes → StonePlayed w h bytes colour point turn left taken
-stone_played {w} {h} {bytes} {before} {cells} {left} {colour} {point} {turn} {taken} r f s few t = record {
-  allowed = not_refused_stone colour turn r f breath;
+pub stone_played : {before left : Position} {colour : Colour} {point turn taken : ℕ} → length before.cells ≡ 361 → length left.cells ≡ 361 → StoneLooked before colour point left true →
+    taken ≡ count_by (λ (p : ℕ × ℕ). byte_taken (stone_byte (other colour)) p.0 p.1) (zip before.cells left.cells) →
+    StonePlayed before.size.width before.size.height before.cells colour point turn left.cells taken
+stone_played {before} {left} {colour} {point} {turn} long few s number = record {
+  allowed = not_refused_stone colour turn s.read s.free (sym s.breath);
   played = played;
-  bytes = λ p l. same p l ∙ (point_byte (other colour) (get_or cells p 0) (s.good p l) ∙ ap (byte_of (other colour)) (sym (view_on_board (points w h) cells (other colour) p l)
-      ∙ ap (λ (d : Board). d p) (s.board ∙ settled_made colour point r)));
-  written = λ p l. rw (same p l) (s.good p l);
-  past = rw t (drop_at (take (points w h) cells) (drop (points w h) bytes) (points w h) (length-take-le (points w h) cells few));
-  captures = s.number ∙ ap₂ (λ (b d : Board). count (λ p. is_taken (b p) (d p)) (points w h))
-      (view_same (points w h) before bytes (other colour) r.same) (sym (view_same (points w h) left cells (other colour) same));
-  stands = stands_after w h bytes left colour played;
+  bytes = λ p l. point_byte (other colour) (get_or left.cells p 0) (good p l)
+      ∙ ap (byte_of (other colour)) (sym (view_on_board (count_of before.size) left.cells (other colour) p l) ∙ ap (λ (d : Board). d p) s.made.board);
+  written = good;
+  past = past_same left before s.made.sized few long;
+  captures = number ∙ counted before left (other colour) s.made.sized long few;
+  stands = stands_after w h before.cells left.cells colour played;
 }
   where
-    same : (p : ℕ) → p < points w h → get_or left p 0 ≡ get_or cells p 0
-    same p l = rw t (get_or_append_left (take (points w h) cells) (drop (points w h) bytes) 0 p (rw (length-take-le (points w h) cells few) l) ∙ get_or-take (points w h) cells p 0 l)
+    w : ℕ
+    w = before.size.width
 
-    breath : breathing (points w h) (near w h) (made w h bytes colour point) yours point ≡ true
-    breath = subst (λ (d : Board). breathing (points w h) (near w h) d yours point ≡ true) (settled_made colour point r) s.breath
+    h : ℕ
+    h = before.size.height
 
-    board : faced w h left colour ≡ made w h bytes colour point
-    board = view_same (points w h) left cells (other colour) same ∙ (s.board ∙ settled_made colour point r)
+    good : (p : ℕ) → p < count_of before.size → is_point (get_or left.cells p 0) ≡ true
+    good = subst (λ (z : Size). (p : ℕ) → p < count_of z → is_point (get_or left.cells p 0) ≡ true) s.made.sized left.board
 
-    played : Played (near w h) (faced w h bytes colour) point (faced w h left colour)
-    played = subst (λ (d : Board). Played (near w h) (faced w h bytes colour) point d) (sym board)
-        (after_played (graph w h) (faced w h bytes colour) point (free_none r f (other colour)) (breathing_breathes (graph w h) (made w h bytes colour point) yours point breath))
+    played : Played (near w h) (faced w h before.cells colour) point (faced w h left.cells colour)
+    played = subst (λ (d : Board). Played (near w h) (faced w h before.cells colour) point d) (sym s.made.board)
+        (after_played (graph w h) (faced w h before.cells colour) point (free_none s.read s.free (other colour))
+        (breathing_breathes (graph w h) (made w h before.cells colour point) yours point (sym s.breath)))
 
--- the stone is refused, since it would not breathe
-pub stone_not_breathing : {w h : ℕ} {bytes before : List ℕ} {colour : Colour} {point turn : ℕ} → PointsRead w h bytes before → Free w h before point →
-    breathing (points w h) (near w h) (settled_board w h before colour point) yours point ≡ false → StoneRefused w h bytes colour point turn (Suicide turn)
-stone_not_breathing {w} {h} {bytes} {before} {colour} {point} {turn} r f e =
-    suicide r f (subst (λ (d : Board). breathing (points w h) (near w h) d yours point ≡ false) (settled_made colour point r) e)
+-- or it would not breathe
+pub stone_not_breathing : {before left : Position} {colour : Colour} {point turn : ℕ} → StoneLooked before colour point left false →
+    StoneRefused before.size.width before.size.height before.cells colour point turn (Suicide turn)
+stone_not_breathing s = suicide s.read s.free (sym s.breath)

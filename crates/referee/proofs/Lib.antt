@@ -7,7 +7,6 @@ pub mod Kept
 pub mod Laws
 pub mod Steps
 pub mod Taken
-pub mod Turned
 pub mod TwoPoints
 pub mod Unique
 pub mod Views

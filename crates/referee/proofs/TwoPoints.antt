@@ -1,5 +1,6 @@
 -- The smallest ko: on a board of two points Black plays, White takes the stone, and Black may not take back.
-use Rattle.std.proofs.Common.{◌≡◌, ℕ, zero, suc, true, false, List, [], ◌∷◌, sym, refl, ◌∙◌, subst, arith}
+use mathlib.Core.Path.{fun_ext}
+use Rattle.std.proofs.Common.{◌≡◌, ℕ, zero, suc, true, List, [], ◌∷◌, Some, None, Option, sym, refl, ap, ◌∙◌, subst, arith}
 use Rattle.grid.specs.Graph.{Near, Graph}
 use Rattle.grid.specs.Grid.{near}
 use Rattle.grid.proofs.Square.{graph}
@@ -81,20 +82,20 @@ black_takes : (leaves 2 Black empty_board first_board ≡ 0) × (leaves 2 White 
 unfolding leaves count breathing has_liberty any reaches through after near
 black_takes = (refl, refl)
 
-no_ko : {d e : Board} → false ≡ true → Same d e → ⊥
-no_ko e s = let z : ◌≡◌ {A = ℕ} 0 1 = cc in omega arith
+no_ko : {d : Board} → ◌≡◌ {A = Option Board} None (Some d) → ⊥
+no_ko e = let z : ◌≡◌ {A = ℕ} 0 1 = cc in omega arith
 
-after_one : StateOf 2 (near 2 1) empty_board moves 1 White first_board true empty_board 0 0 0
+after_one : StateOf 2 (near 2 1) empty_board moves 1 White first_board (Some empty_board) 0 0 0
 after_one =
     state_numbers refl (omega (arith, black_takes)) (omega (arith, black_takes))
-    (state_stone (graph 2 1) (state_start 2 (near 2 1) empty_board moves empty_board) 0 first_board refl (omega arith) first_played no_ko (omega arith))
+    (state_stone (graph 2 1) (state_start 2 (near 2 1) empty_board moves) 0 first_board refl (omega arith) first_played no_ko (omega arith))
 
 -- the board is not the empty one
-second_differs : true ≡ true → Same second_board empty_board → ⊥
+second_differs : Some empty_board ≡ Some second_board → ⊥
 unfolding breathing has_liberty any reaches through after near
-second_differs e s = none_yours refl (sym (s 1))
+second_differs e = let same : empty_board ≡ second_board = cc in none_yours refl (ap (λ (b : Board). b 1) same)
 
-after_two : StateOf 2 (near 2 1) empty_board moves 2 Black second_board true first_board 0 1 0
+after_two : StateOf 2 (near 2 1) empty_board moves 2 Black second_board (Some first_board) 0 1 0
 after_two =
     state_numbers refl (omega (arith, white_takes)) (omega (arith, white_takes))
     (state_stone (graph 2 1) after_one 1 second_board refl (omega arith) second_played second_differs (omega arith))
@@ -102,4 +103,4 @@ after_two =
 -- the record is refused at move 2 for ko; one black stone was taken, and White's stone is left
 pub two_point_ko : TwoPointKo
 unfolding TwoPointKo breathing has_liberty any reaches through after near
-two_point_ko = (second_board, refuse_ko after_two 0 third_board (omega arith) refl (omega arith) third_played refl third_restores, refl, refl)
+two_point_ko = (second_board, refuse_ko after_two 0 third_board (omega arith) refl (omega arith) third_played (ap Some (sym (fun_ext third_restores))), refl, refl)

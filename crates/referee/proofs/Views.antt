@@ -1,7 +1,7 @@
 -- Boards written in bytes, as each side sees them.
-use Rattle.std.proofs.Common.{◌≡◌, ℕ, ◌<◌, ◌≤◌, Bool, true, false, ◌&&◌, ◌||◌, eqb, ltb, ◌⊎◌, List, get_or, sym, refl, ap, ◌∙◌, subst, inl, inr, arith}
+use Rattle.std.proofs.Common.{◌≡◌, ℕ, ◌<◌, Bool, true, false, ◌&&◌, eqb, ltb, ◌⊎◌, List, get_or, sym, refl, ap, ◌∙◌, subst, inl, inr, arith}
 use mathlib.Core.Path.{fun_ext}
-use Rattle.std.proofs.lemmas.Bool.{cases_Bool, cases_lt, eqb-true, lt-ltb, le-ltb, or_cases}
+use Rattle.std.proofs.lemmas.Bool.{cases_Bool, eqb-true, lt-ltb}
 use Rattle.grid.specs.Graph.{Near}
 use Rattle.chains.specs.Board.{pick, State, none, mine, yours, Board}
 use Rattle.chains.specs.Computed.{is_state, count}
@@ -9,6 +9,8 @@ use Rattle.chains.specs.Views.{other, is_point, state_of, view}
 use Rattle.chains.specs.declared.colour.Colour.{Colour}
 use Rattle.chains.specs.declared.colour.Colour.TheVariants.{Black, White}
 use Rattle.play.specs.Played.{Played}
+use Rattle.play.specs.Stone.{byte_of}
+use Rattle.play.proofs.Outcome.{point_byte}
 use Rattle.referee.specs.Rules.{as_seen, seen, Same, PlayedBy, leaves}
 
 -- what White sees in a byte is what Black sees, turned
@@ -53,37 +55,8 @@ view_leaves n c bytes after = λ i. count (λ q. is_state mine (view_seen n byte
     gone : (q : ℕ) → is_state none (view n after Black q) ≡ is_state none (view n after c q)
     gone q = both c (view n after Black q) ∙ ap (λ (b : Board). is_state none (b q)) (view_seen n after c)
 
--- the byte that writes what Black sees
-abbrev byte_of : State → ℕ
-byte_of none = 46
-byte_of mine = 88
-byte_of yours = 79
-
--- a point's byte is known by what Black sees there
-point_byte : (byte : ℕ) → is_point byte ≡ true → byte ≡ byte_of (state_of Black byte)
-point_byte byte h = join (or_cases (eqb byte 46) (eqb byte 88 || eqb byte 79) h)
-  where
-    known : (code : ℕ) → byte ≡ code → code ≡ byte_of (state_of Black code) → byte ≡ byte_of (state_of Black byte)
-    known code e i = e ∙ i ∙ ap (λ (c : ℕ). byte_of (state_of Black c)) (sym e)
-
-    stone : (eqb byte 88 ≡ true) ⊎ (eqb byte 79 ≡ true) → byte ≡ byte_of (state_of Black byte)
-    stone (inl e) = known 88 (eqb-true byte 88 e) refl
-    stone (inr e) = known 79 (eqb-true byte 79 e) refl
-
-    join : (eqb byte 46 ≡ true) ⊎ ((eqb byte 88 || eqb byte 79) ≡ true) → byte ≡ byte_of (state_of Black byte)
-    join (inl e) = known 46 (eqb-true byte 46 e) refl
-    join (inr e) = stone (or_cases (eqb byte 88) (eqb byte 79) e)
-
--- bytes that agree on the board's points write the same board
-pub bytes_same : (n : ℕ) (xs ys : List ℕ) (c : Colour) → ((p : ℕ) → p < n → get_or xs p 0 ≡ get_or ys p 0) → Same (view n xs c) (view n ys c)
-bytes_same n xs ys c h p = join (cases_lt p n)
-  where
-    join : (p < n) ⊎ (n ≤ p) → pick (ltb p n) (state_of c (get_or xs p 0)) none ≡ pick (ltb p n) (state_of c (get_or ys p 0)) none
-    join (inl l) = ap (λ (byte : ℕ). pick (ltb p n) (state_of c byte) none) (h p l)
-    join (inr l) = rw (le-ltb p n l) refl
-
--- and points' bytes that write the same board agree
+-- points' bytes that write the same board agree
 pub same_bytes : (n : ℕ) (xs ys : List ℕ) → ((p : ℕ) → p < n → is_point (get_or xs p 0) ≡ true) → ((p : ℕ) → p < n → is_point (get_or ys p 0) ≡ true) → Same (view n xs Black) (view n ys Black) → (p : ℕ) → p < n → get_or xs p 0 ≡ get_or ys p 0
 same_bytes n xs ys f g s p l =
     let e : state_of Black (get_or xs p 0) ≡ state_of Black (get_or ys p 0) = rw (lt-ltb p n l) at (s p) in
-    point_byte (get_or xs p 0) (f p l) ∙ ap byte_of e ∙ sym (point_byte (get_or ys p 0) (g p l))
+    point_byte Black (get_or xs p 0) (f p l) ∙ ap (byte_of Black) e ∙ sym (point_byte Black (get_or ys p 0) (g p l))

@@ -1,9 +1,10 @@
 -- A whole record: how it begins, and what is handed back.
-use Rattle.std.proofs.Common.{◌≡◌, ℕ, ◌/◌, ◌%◌, ◌<◌, ◌≤◌, Bool, true, eqb, leb, List, ◌++◌, length, get_or, take, drop, Some, None, Option, sym, refl, ap, ◌∙◌, subst, arith}
+use Rattle.std.proofs.Common.{◌≡◌, ℕ, ◌+◌, ◌*◌, ◌%◌, ◌<◌, ◌≤◌, Bool, true, eqb, leb, List, ◌++◌, length, get_or, take, drop, Some, None, Option, sym, refl, ap, ◌∙◌, subst, arith}
 use Rattle.std.proofs.lemmas.List.{get_or-take, length-take-le, take-append-le, take_all}
 use Rattle.std.proofs.lemmas.Slice.{drop-append-drop}
 use Rattle.std.proofs.lemmas.Bool.{le-leb, eq-eqb}
-use Rattle.grid.specs.Grid.{points, near}
+use Rattle.grid.specs.Graph.{Near}
+use Rattle.grid.specs.Grid.{points, near as square}
 use Rattle.grid.specs.Refusals.{listed, unless}
 use Rattle.grid.specs.declared.refusal.Refusal.{Refusal}
 use Rattle.grid.specs.declared.size.Size.{Size}
@@ -22,35 +23,65 @@ use Rattle.play.specs.Stone.{or_below}
 use Rattle.referee.specs.declared.game.Game.{Game}
 use Rattle.referee.specs.declared.game.Ended.{Ended}
 use Rattle.referee.specs.declared.moves.Move.{Move}
-use Rattle.referee.specs.Game.{board_of, Written, Kept, Facing, RecordLeft, answer_of}
-use Rattle.referee.specs.Moves.{moves_of}
+use Rattle.referee.specs.Game.{board_of, Kept, Facing, RecordLeft, answer_of}
+use Rattle.referee.specs.Moves.{move_of, moves_of}
 use Rattle.referee.specs.Record.{record_refusal, Ready, RecordRefereed}
-use Rattle.referee.specs.Rules.{move_at, Refereed}
+use Rattle.referee.specs.Rules.{Refereed}
 use Rattle.referee.specs.Statements.{RecordStands, RecordUnique}
 use Rattle.referee.proofs.Boards.{stand_seen}
-use Rattle.referee.proofs.Bytes.{moves_length}
+use Rattle.referee.proofs.Bytes.{next_move, no_move_left}
 use Rattle.referee.proofs.Laws.{record_stands, record_unique}
 use Rattle.referee.proofs.Views.{view_seen}
 
--- the next move, while bytes are left
-pub facing_next : {w h : ℕ} {start : Board} {k : ℕ} {game : Game} {next : Move} (bytes : List ℕ) → Kept w h start (moves_of bytes) k game → k < length bytes / 2 → move_at (moves_of bytes) k ≡ next → Facing w h start (moves_of bytes) k game next
-facing_next bytes s l e = let m = moves_length bytes in record { kept = s; there = omega arith; move_is = e }
+-- what is kept while the moves are followed: the bytes that are left write the moves from k on
+pub record Following (size : Size) (start : Board) (bytes rest : List ℕ) (chunk k : ℕ) (game : Game) : Type 0 where
+  pub kept : Kept size start (moves_of bytes) k game
+  pub left : drop k (moves_of bytes) ≡ moves_of rest
+  pub within : k ≤ length (moves_of bytes)
+  pub pairs : chunk ≡ 2
+
+-- all bytes are left
+pub following_start : {size : Size} {start : Board} {bytes rest : List ℕ} {chunk k : ℕ} {game : Game} → rest ≡ bytes → chunk ≡ 2 → k ≡ 0 → Kept size start (moves_of bytes) 0 game → Following size start bytes rest chunk k game
+following_start {size} {start} {bytes} {game = game} e f g s = record {
+  kept = subst (λ (k : ℕ). Kept size start (moves_of bytes) k game) (sym g) s;
+  left = rw g (ap moves_of (sym e));
+  within = rw g (omega arith);
+  pairs = f;
+}
+
+-- the next two bytes write the next move
+pub following_next : {size : Size} {start : Board} {bytes rest : List ℕ} {chunk k : ℕ} {game : Game} (number : ℕ) (next : Move) (pair later : List ℕ) → Following size start bytes rest chunk k game →
+    number ≡ k → rest ≡ pair ++ later → length pair ≡ chunk → next ≡ move_of (get_or pair 0 0 + 256 * get_or pair 1 0) → Facing size start (moves_of bytes) number game next
+following_next {size} {start} {bytes} {rest} {game = game} number next pair later s n e h m =
+    let w = next_move bytes rest pair later _ s.left e (h ∙ s.pairs) in
+    subst (λ (k : ℕ). Facing size start (moves_of bytes) k game next) (sym n) (record { kept = s.kept; there = w.0; move_is = w.1 ∙ sym m })
+
+-- and where it is allowed, the bytes after them are left
+pub following_more : {size : Size} {start : Board} {bytes rest : List ℕ} {chunk k : ℕ} {game : Game} (number : ℕ) (pair later : List ℕ) {after size' : ℕ} {game' : Game} → Following size start bytes rest chunk k game →
+    number ≡ k → after ≡ k + 1 → size' ≡ chunk → rest ≡ pair ++ later → length pair ≡ chunk → Kept size start (moves_of bytes) (number + 1) game' → Following size start bytes later size' after game'
+following_more {size} {start} {bytes} {rest} {k = k} number pair later {game' = game'} s n a z e h t =
+    let w = next_move bytes rest pair later k s.left e (h ∙ s.pairs) in
+    record {
+      kept = subst (λ (j : ℕ). Kept size start (moves_of bytes) j game') (ap (λ (j : ℕ). j + 1) n ∙ sym a) t;
+      left = rw a (w.2);
+      within = omega (arith, w.0);
+      pairs = z ∙ s.pairs;
+    }
 
 -- no move is left
-pub kept_last : {w h : ℕ} {start : Board} {k : ℕ} {game : Game} (bytes : List ℕ) → Kept w h start (moves_of bytes) k game → k ≤ length bytes / 2 → length bytes / 2 ≤ k → Kept w h start (moves_of bytes) (length (moves_of bytes)) game
-kept_last {w} {h} {start} {k} {game} bytes s l m =
-    let n = moves_length bytes in
-    let e : k ≡ length (moves_of bytes) = omega arith in
-    subst (λ (j : ℕ). Kept w h start (moves_of bytes) j game) e s
+pub following_end : {size : Size} {start : Board} {bytes rest : List ℕ} {chunk k : ℕ} {game : Game} → Following size start bytes rest chunk k game → length rest < chunk → Kept size start (moves_of bytes) (length (moves_of bytes)) game
+following_end {size} {start} {bytes} {rest} {k = k} {game = game} s h =
+    let e : k ≡ length (moves_of bytes) = omega (arith, s.within, s.pairs, no_move_left bytes rest k s.left (omega (arith, s.pairs))) in
+    subst (λ (j : ℕ). Kept size start (moves_of bytes) j game) e s.kept
 
 -- lines that do not apply are passed over
 lines_passed : (a b : Bool) (first second : ℕ × ℕ) (o rest : Option (ℕ × ℕ)) → a ≡ true → b ≡ true → o ≡ None → unless a first (unless b second (or_below o rest)) ≡ rest
 lines_passed a b first second o rest e f g = rw (e, f, g) refl
 
 -- where the lines above do not apply, the board decides
-record_line : (w h : ℕ) (board moves : List ℕ) → points w h ≤ length board → length moves % 2 ≡ 0 → points_refusal (points w h) board ≡ None → record_refusal w h board moves ≡ stand_refusal (points w h) (near w h) (board_of w h board)
+record_line : (w h : ℕ) (board moves : List ℕ) → points w h ≤ length board → length moves % 2 ≡ 0 → points_refusal (points w h) board ≡ None → record_refusal w h board moves ≡ stand_refusal (points w h) (square w h) (board_of w h board)
 record_line w h board moves l e f =
-    lines_passed (leb (points w h) (length board)) (eqb (length moves % 2) 0) (12, 0) (2, length moves) (points_refusal (points w h) board) (stand_refusal (points w h) (near w h) (board_of w h board))
+    lines_passed (leb (points w h) (length board)) (eqb (length moves % 2) 0) (12, 0) (2, length moves) (points_refusal (points w h) board) (stand_refusal (points w h) (square w h) (board_of w h board))
     (le-leb (points w h) (length board) l) (eq-eqb (length moves % 2) 0 e) f
 
 -- what a position was made of
@@ -74,47 +105,64 @@ not_standing {position} {size} {board} moves e m l f i =
 pub ready_so : {position : Position} {size : Size} {board : List ℕ} (moves : List ℕ) (game : Game) → MadeOf position size board → count_of size ≤ length board → length moves % 2 ≡ 0 →
     stand_refusal (count_of position.size) (near_of position.size) (seen position.size position.cells Black) ≡ None →
     ((colour : Colour) → Stands position.size.width position.size.height (seen position.size position.cells colour)) →
-    game.cells ≡ position.cells → Kept size.width size.height (board_of size.width size.height game.cells) (moves_of moves) 0 game → Ready size.width size.height board moves game
+    game.position ≡ position → Kept position.size (seen position.size position.cells Black) (moves_of moves) 0 game → Ready size board moves game
 ready_so {position} {size} {board} moves game m l f i s e k = record {
-  allowed = record_line size.width size.height board moves l f m.fine ∙ made_board (λ (s : Size) (b : Board). stand_refusal (count_of s) (near_of s) b ≡ None) Black m i;
-  same = ap (board_of size.width size.height) e ∙ same_view (count_of size) position.cells board Black m.same;
-  stands = λ colour. made_board (λ (s : Size) (b : Board). Stands s.width s.height b) colour m (s colour);
-  kept = k;
+  long = l;
+  allowed = record_line size.width size.height board moves l f m.fine ∙ made_board (λ (z : Size) (b : Board). stand_refusal (count_of z) (near_of z) b ≡ None) Black m i;
+  sized = ap (λ (x : Position). x.size) e ∙ m.sized;
+  same = ap (λ (x : Position). seen size x.cells Black) e ∙ same_view (count_of size) position.cells board Black m.same;
+  stands = λ colour. made_board (λ (z : Size) (b : Board). Stands z.width z.height b) colour m (s colour);
+  kept = subst (λ (x : Position). Kept x.size (seen x.size x.cells Black) (moves_of moves) 0 game) (sym e) k;
 }
 
--- the position's cells write points
-pub made_written : {position : Position} {size : Size} {board : List ℕ} {cells : List ℕ} → MadeOf position size board → cells ≡ position.cells → Written size.width size.height cells
-made_written {position} {size} {cells = cells} m e p l =
-    subst (λ (zs : List ℕ). is_point (get_or zs p 0) ≡ true) (sym e) (position.board p (subst (λ (s : Size). p < count_of s) (sym m.sized) l))
-
 -- what is handed back
-pub handed_back : {w h : ℕ} {board moves : List ℕ} {game : Game} (ended : Ended) (left : List ℕ) → Ready w h board moves game → RecordLeft w h (board_of w h game.cells) (moves_of moves) ended →
-    points w h ≤ length ended.game.cells → left ≡ take (points w h) ended.game.cells ++ drop (points w h) board → RecordRefereed w h board moves (answer_of ended) left
+pub handed_back : {size : Size} {board moves : List ℕ} {game : Game} (ended : Ended) (left : List ℕ) → Ready size board moves game →
+    RecordLeft game.position.size (seen game.position.size game.position.cells Black) (moves_of moves) ended → length ended.game.position.cells ≡ 361 →
+    left ≡ take (count_of ended.game.position.size) ended.game.position.cells ++ drop (count_of ended.game.position.size) board → RecordRefereed size.width size.height board moves (answer_of ended) left
 unfolding RecordStands RecordUnique
-handed_back {w} {h} {board} {moves} {game} ended left r d l e = record {
+handed_back {size} {board} {moves} {game} ended left r d long t = record {
   allowed = r.allowed;
   rules = rules;
-  only = λ other final o. record_unique (points w h) (near w h) (board_of w h board) (moves_of moves) other (answer_of ended) final (board_of w h left) o rules;
-  stands = λ colour. stand_stands (subst (λ (b : Board). Stand (points w h) (near w h) b) (view_seen (points w h) left colour) (stand_seen colour stand));
-  written = λ p o. subst (λ (byte : ℕ). is_point byte ≡ true) (cell p o) (d.written p o);
+  only = λ other final o. record_unique n near (seen size board Black) (moves_of moves) other (answer_of ended) final (seen size left Black) o rules;
+  stands = λ colour. stand_stands (subst (λ (b : Board). Stand n near b) (view_seen n left colour) (stand_seen colour stand));
+  written = λ p o. subst (λ (byte : ℕ). is_point byte ≡ true) (cell p o) (written p o);
   past = past;
 }
   where
-    size : length (take (points w h) ended.game.cells) ≡ points w h
-    size = length-take-le (points w h) ended.game.cells l
+    n : ℕ
+    n = count_of size
 
-    front : take (points w h) left ≡ take (points w h) ended.game.cells
-    front = ap (take (points w h)) e ∙ take-append-le (points w h) (take (points w h) ended.game.cells) (drop (points w h) board) (omega (arith, size)) ∙ take_all (points w h) (take (points w h) ended.game.cells) (omega (arith, size))
+    near : Near
+    near = near_of size
 
-    past : drop (points w h) left ≡ drop (points w h) board
-    past = ap (drop (points w h)) e ∙ drop-append-drop (points w h) board (take (points w h) ended.game.cells) (points w h) (omega arith) size
+    cells : List ℕ
+    cells = ended.game.position.cells
 
-    cell : (p : ℕ) → p < points w h → get_or ended.game.cells p 0 ≡ get_or left p 0
-    cell p o = sym (get_or-take (points w h) ended.game.cells p 0 o) ∙ ap (λ (zs : List ℕ). get_or zs p 0) (sym front) ∙ get_or-take (points w h) left p 0 o
+    sized : ended.game.position.size ≡ size
+    sized = d.sized ∙ r.sized
 
-    rules : Refereed (points w h) (near w h) (board_of w h board) (moves_of moves) (answer_of ended) (board_of w h left)
-    rules = subst (λ (b : Board). Refereed (points w h) (near w h) b (moves_of moves) (answer_of ended) (board_of w h left)) r.same
-        (subst (λ (b : Board). Refereed (points w h) (near w h) (board_of w h game.cells) (moves_of moves) (answer_of ended) b) (sym (same_view (points w h) left ended.game.cells Black front)) d.rules)
+    e : left ≡ take n cells ++ drop n board
+    e = subst (λ (z : Size). left ≡ take (count_of z) cells ++ drop (count_of z) board) sized t
 
-    stand : Stand (points w h) (near w h) (board_of w h left)
-    stand = record_stands (points w h) (near w h) (graph w h) (board_of w h board) (stands_stand (r.stands Black)) (moves_of moves) (answer_of ended) (board_of w h left) rules
+    written : (p : ℕ) → p < n → is_point (get_or cells p 0) ≡ true
+    written = subst (λ (z : Size). (p : ℕ) → p < count_of z → is_point (get_or cells p 0) ≡ true) sized ended.game.position.board
+
+    whole : length (take n cells) ≡ n
+    whole = length-take-le n cells (omega (arith, size.few.1))
+
+    front : take n left ≡ take n cells
+    front = ap (take n) e ∙ take-append-le n (take n cells) (drop n board) (omega (arith, whole)) ∙ take_all n (take n cells) (omega (arith, whole))
+
+    past : drop n left ≡ drop n board
+    past = ap (drop n) e ∙ drop-append-drop n board (take n cells) n (omega arith) whole
+
+    cell : (p : ℕ) → p < n → get_or cells p 0 ≡ get_or left p 0
+    cell p o = sym (get_or-take n cells p 0 o) ∙ ap (λ (zs : List ℕ). get_or zs p 0) (sym front) ∙ get_or-take n left p 0 o
+
+    rules : Refereed n near (seen size board Black) (moves_of moves) (answer_of ended) (seen size left Black)
+    rules = subst (λ (b : Board). Refereed n near b (moves_of moves) (answer_of ended) (seen size left Black)) r.same
+        (subst (λ (b : Board). Refereed n near (seen size game.position.cells Black) (moves_of moves) (answer_of ended) b) (sym (same_view n left cells Black front))
+        (subst (λ (z : Size). Refereed (count_of z) (near_of z) (seen z game.position.cells Black) (moves_of moves) (answer_of ended) (seen z cells Black)) r.sized d.rules))
+
+    stand : Stand n near (seen size left Black)
+    stand = record_stands n near (graph size.width size.height) (seen size board Black) (stands_stand (r.stands Black)) (moves_of moves) (answer_of ended) (seen size left Black) rules

@@ -1,11 +1,13 @@
 //! The moves of a record.
 
-ghost use Rattle.std.specs.Prelude.{◌≡◌, ◌+◌, ◌*◌, ◌<◌, length};
-ghost use Rattle.referee.specs.Moves.{move_of, moves_of};
-ghost use Rattle.referee.specs.Rules.{move_at};
+ghost use Rattle.std.specs.Prelude.{◌≡◌, ◌+◌, ◌*◌};
+ghost use Rattle.referee.specs.Moves.{move_of};
 
 /// How a record writes a pass.
 pub const PASS: u16 = 65_535;
+
+/// The bytes that write a move.
+pub const MOVE_BYTES: usize = 2;
 
 /// A side passes, or plays a stone on a point.
 #[derive(Clone, Copy, PartialEq, Eq, Debug)]
@@ -14,24 +16,23 @@ pub enum Move {
     At(u16),
 }
 
+impl From<u16> for Move {
+    ghost from_gives = { λ number move. move ≡ move_of number };
+
+    /// The move that a number writes.
+    fn from(number: u16) -> Move {
+        match number {
+            PASS => Move::Pass,
+            point => Move::At(point),
+        }
+    }
+}
+
 impl Move {
     /// The move that two bytes write, the low byte first.
     pub fn of_bytes(low: u8, high: u8) -> Move
         ensures { result ≡ move_of (low + 256 * high) }
     {
-        let number = u16::from(low) + 256 * u16::from(high);
-        if number == PASS {
-            Move::Pass
-        } else {
-            Move::At(number)
-        }
+        Move::from(u16::from_le_bytes([low, high]))
     }
-}
-
-/// Move k of the record.
-pub(crate) fn read_move(moves: &[u8], k: usize) -> Move
-    requires { 2 * k + 1 < length moves.now }
-    ensures { move_at (moves_of moves.now) k ≡ result }
-{
-    Move::of_bytes(moves[2 * k], moves[2 * k + 1])
 }

@@ -1,4 +1,5 @@
 pub mod All
+mod Arrays
 pub mod Bits
 pub mod Bundle
 pub mod Counts

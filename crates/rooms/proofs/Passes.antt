@@ -1,12 +1,18 @@
 -- Sets of rooms, one for each chain: what holds while the neighbours of a point, and then the points, are gone through.
-use Rattle.std.proofs.Common.{◌≡◌, ℕ, ◌+◌, ◌<◌, ◌≤◌, Bool, true, false, not, ◌&&◌, ◌||◌, eqb, ltb, ◌≢◌, ◌⊎◌, List, [], length, get_or, set, replicate, Some, None, Option, sym, refl, ap, ◌∙◌, subst, inl, inr, add-one, arith, length-set}
+use Rattle.std.proofs.Common.{◌≡◌, ℕ, ◌+◌, ◌<◌, ◌≤◌, Bool, true, false, not, ◌&&◌, ◌||◌, eqb, ltb, ◌⊎◌, List, [], ◌∷◌, ◌++◌, cond, map-id, length, get_or, set, replicate, Some, None, Option, sym, refl, ap, ◌∙◌, subst, inl, inr, add-one, arith, length-set}
+use Rattle.std.specs.Iterator.{Yields, YieldsFirst}
 use lib.ListN.{length-replicate}
-use Rattle.std.proofs.lemmas.Bool.{cases_Bool, lt-ltb, cases_eq, cases_lt, both_ways, eqb-true, eqb-false, eq-eqb, ne_eqb, and_parts, and_from, not_from_false, cond-true, cond-false}
+use Rattle.std.proofs.lemmas.Bool.{cases_Bool, lt-ltb, cases_eq, cases_lt, both_ways, eqb-true, eq-eqb, ne_eqb, and_parts, and_from, not_from_false, cond-true, cond-false}
 use Rattle.std.proofs.lemmas.List.{get_or-set_same, get_or-set_other, get_or-replicate, get_or_past}
+use Rattle.std.proofs.lemmas.List.Folds.{list_any-append}
+use Rattle.std.proofs.lemmas.Iterator.Consumers.{YieldsList-from_first, YieldsList-end}
+use Rattle.grid.specs.Neighbours.{neighbours_of}
+use Rattle.grid.specs.Ahead.{ahead}
+use Rattle.grid.specs.declared.neighbours.Neighbours.{Neighbours}
 use Rattle.chains.specs.Computed.{any}
 use Rattle.chains.proofs.Below.{any_true, true_any}
 use Rattle.rooms.specs.Bits.{member}
-use Rattle.rooms.specs.Tables.{Paired, holds, chain_at, is_chain, meets, in_room, wall_bit, empty_in, some_empty, some_away, vital_bit, put_bit, keep_bit, empty_bit, empty_firsts, wall_next, vital_next, firsts_next, own_first, clear_bit, NoRoom, RestKept}
+use Rattle.rooms.specs.Tables.{Paired, holds, own_chain, is_chain, meets, in_room, wall_bit, empty_in, some_empty, some_away, vital_bit, put_bit, keep_bit, empty_bit, empty_firsts, wall_next, vital_next, firsts_next, own_first, clear_bit, NoRoom, RestKept}
 use Rattle.rooms.specs.declared.room_set.RoomSet.{RoomSet}
 use Rattle.rooms.proofs.Bits.{member_past}
 
@@ -32,125 +38,136 @@ and_true : (x : Bool) → (x && true) ≡ x
 and_true true = refl
 and_true false = refl
 
--- one more neighbour, a stone of that chain
-pub meets_some : (handed : ℕ → Option ℕ) (chains rooms : List ℕ) (k chain : ℕ) → Some chain ≡ chain_at chains rooms (handed k) →
-    (c : ℕ) → meets handed chains rooms c (k + 1) ≡ (meets handed chains rooms c k || eqb c chain)
-meets_some handed chains rooms k chain some c =
-    any_more (λ j. is_chain c (chain_at chains rooms (handed j))) k ∙ ap (λ (o : Option ℕ). meets handed chains rooms c k || is_chain c o) (sym some)
+-- at the end of a loop over the neighbours of p all of them were gone through
+pub neighbours_all :
+    (w h p : ℕ) (s : Neighbours) → ahead s ≡ neighbours_of w h p → (xs : List ℕ) (t : Neighbours) → Yields (YieldsFirst ahead) s xs t
+    → (r : Option ℕ) (u : Neighbours) → r ≡ None → YieldsFirst ahead t r u → xs ≡ neighbours_of w h p
+neighbours_all w h p s e xs t y r u is step = sym (map-id xs) ∙ (YieldsList-end (YieldsList-from_first (λ (x : ℕ). x) ahead (neighbours_of w h p) e) xs t y r u is step).0
 
--- one more neighbour, no own stone
-pub meets_none : (handed : ℕ → Option ℕ) (chains rooms : List ℕ) (k : ℕ) → None ≡ chain_at chains rooms (handed k) →
-    (c : ℕ) → meets handed chains rooms c (k + 1) ≡ meets handed chains rooms c k
-meets_none handed chains rooms k none c =
-    any_more (λ j. is_chain c (chain_at chains rooms (handed j))) k
-    ∙ ap (λ (o : Option ℕ). meets handed chains rooms c k || is_chain c o) (sym none)
-    ∙ or_false (meets handed chains rooms c k)
+-- one more point, a stone of that chain
+meets_some : (chains rooms xs : List ℕ) (q chain : ℕ) → Some chain ≡ own_chain chains rooms q → (c : ℕ) → meets chains rooms c (xs ++ q ∷ []) ≡ (meets chains rooms c xs || eqb c chain)
+meets_some chains rooms xs q chain some c =
+    list_any-append (λ p. is_chain c (own_chain chains rooms p)) xs (q ∷ [])
+    ∙ ap (λ (o : Option ℕ). meets chains rooms c xs || (is_chain c o || false)) (sym some)
+    ∙ ap (λ (x : Bool). meets chains rooms c xs || x) (or_false (eqb c chain))
 
--- no neighbour is gone through yet
-pub meets_start : (handed : ℕ → Option ℕ) (chains rooms : List ℕ) (c : ℕ) → meets handed chains rooms c 0 ≡ false
-meets_start handed chains rooms c = any_none (λ j. is_chain c (chain_at chains rooms (handed j)))
+-- one more point, no own stone
+meets_none : (chains rooms xs : List ℕ) (q : ℕ) → None ≡ own_chain chains rooms q → (c : ℕ) → meets chains rooms c (xs ++ q ∷ []) ≡ meets chains rooms c xs
+meets_none chains rooms xs q none c =
+    list_any-append (λ p. is_chain c (own_chain chains rooms p)) xs (q ∷ [])
+    ∙ ap (λ (o : Option ℕ). meets chains rooms c xs || (is_chain c o || false)) (sym none)
+    ∙ or_false (meets chains rooms c xs)
 
--- a stone of another chain is passed
-pub meets_past : (handed : ℕ → Option ℕ) (chains rooms : List ℕ) (k c : ℕ) {chain : ℕ} → Some chain ≡ chain_at chains rooms (handed k) → chain ≢ c →
-    meets handed chains rooms c k ≡ false → meets handed chains rooms c (k + 1) ≡ false
-meets_past handed chains rooms k c {chain} some other before =
-    meets_some handed chains rooms k chain some c ∙ rw (before, ne_eqb c chain (λ e. other (sym e))) refl
+-- the bits of the chains of own stones among these points are changed by f, and else the sets are as they were
+pub record Changed (f : ℕ → ℕ → Bool → Bool) (chains rooms : List ℕ) (was is : List RoomSet) (points : List ℕ) : Type 0 where
+  pub long : length is ≡ 361
+  pub bits : (c i : ℕ) → holds is c i ≡ cond (meets chains rooms c points) (f c i (holds was c i)) (holds was c i)
 
--- a stone of the chain is found
-pub meets_found : (handed : ℕ → Option ℕ) (chains rooms : List ℕ) (k m c : ℕ) {chain : ℕ} → Some chain ≡ chain_at chains rooms (handed k) → chain ≡ c → k < m →
-    meets handed chains rooms c m ≡ true
-meets_found handed chains rooms k m c {chain} some same l =
-    true_any (λ j. is_chain c (chain_at chains rooms (handed j))) m k l (ap (is_chain c) (sym some) ∙ eq-eqb c chain (sym same))
+-- no point is gone through yet
+pub changed_start : {f : ℕ → ℕ → Bool → Bool} {chains rooms : List ℕ} {was : List RoomSet} → length was ≡ 361 → Changed f chains rooms was was []
+changed_start long = record { long = long; bits = λ c i. refl }
 
--- the room is in the sets of the chains among the first k neighbours, and else the sets are as they were
-pub record Putting (handed : ℕ → Option ℕ) (chains rooms : List ℕ) (room : ℕ) (was is : List RoomSet) (k : ℕ) : Type 0 where
-  pub bits : (c i : ℕ) → holds is c i ≡ (holds was c i || (eqb i room && meets handed chains rooms c k))
-
--- no neighbour is gone through yet
-pub putting_start : {handed : ℕ → Option ℕ} {chains rooms : List ℕ} {room : ℕ} {was : List RoomSet} → Putting handed chains rooms room was was 0
-putting_start {handed} {chains} {rooms} {room} {was} = record {
-  bits = λ c i. rw (meets_start handed chains rooms c, and_false (eqb i room)) (sym (or_false (holds was c i)));
-}
-
--- the neighbour is no own stone
-pub putting_none : {handed : ℕ → Option ℕ} {chains rooms : List ℕ} {room k : ℕ} {was is after : List RoomSet} →
-    Putting handed chains rooms room was is k → after ≡ is → None ≡ chain_at chains rooms (handed k) → Putting handed chains rooms room was after (k + 1)
-putting_none {handed} {chains} {rooms} {room} {k} {was} {is} {after} w e none = subst (λ (s : List RoomSet). Putting handed chains rooms room was s (k + 1)) (sym e) (record {
-  bits = λ c i. w.bits c i ∙ ap (λ (x : Bool). holds was c i || (eqb i room && x)) (sym (meets_none handed chains rooms k none c));
+-- one point more, no own stone
+pub changed_past : {f : ℕ → ℕ → Bool → Bool} {chains rooms : List ℕ} {was is after : List RoomSet} {points : List ℕ} (q : ℕ) →
+    Changed f chains rooms was is points → after ≡ is → None ≡ own_chain chains rooms q → Changed f chains rooms was after (points ++ q ∷ [])
+changed_past {f} {chains} {rooms} {was} {is} {after} {points} q w e none = subst (λ (s : List RoomSet). Changed f chains rooms was s (points ++ q ∷ [])) (sym e) (record {
+  long = w.long;
+  bits = λ c i. w.bits c i ∙ ap (λ (x : Bool). cond x (f c i (holds was c i)) (holds was c i)) (sym (meets_none chains rooms points q none c));
 })
 
-or_more : (x y a b : Bool) → ((x || (y && a)) || (b && y)) ≡ (x || (y && (a || b)))
-or_more true y a b = refl
-or_more false false a true = refl
-or_more false false a false = refl
-or_more false true true b = refl
-or_more false true false true = refl
-or_more false true false false = refl
+-- a change that was made is not made again
+once : (g : Bool → Bool) → ((x : Bool) → g (g x) ≡ g x) → (m e x : Bool) → cond e (g (cond m (g x) x)) (cond m (g x) x) ≡ cond (m || e) (g x) x
+once g same true true x = same x
+once g same true false x = refl
+once g same false true x = refl
+once g same false false x = refl
 
--- the neighbour is a stone of that chain
-pub putting_some : {handed : ℕ → Option ℕ} {chains rooms : List ℕ} {room k chain : ℕ} {was is new after : List RoomSet} →
-    Putting handed chains rooms room was is k → after ≡ new → Some chain ≡ chain_at chains rooms (handed k) →
-    ((c i : ℕ) → holds new c i ≡ (holds is c i || (eqb c chain && eqb i room))) → Putting handed chains rooms room was after (k + 1)
-putting_some {handed} {chains} {rooms} {room} {k} {chain} {was} {is} {new} {after} w e some put = subst (λ (s : List RoomSet). Putting handed chains rooms room was s (k + 1)) (sym e) (record {
+-- one point more, a stone of that chain
+changed_step : {f : ℕ → ℕ → Bool → Bool} {chains rooms : List ℕ} {was is new : List RoomSet} {points : List ℕ} (q chain : ℕ) → ((c i : ℕ) (x : Bool) → f c i (f c i x) ≡ f c i x) →
+    Changed f chains rooms was is points → length new ≡ 361 → Some chain ≡ own_chain chains rooms q →
+    ((c i : ℕ) → holds new c i ≡ cond (eqb c chain) (f c i (holds is c i)) (holds is c i)) → Changed f chains rooms was new (points ++ q ∷ [])
+changed_step {f} {chains} {rooms} {was} {is} {new} {points} q chain same w long some next = record {
+  long = long;
   bits = λ c i.
-      put c i
-      ∙ ap (λ (x : Bool). x || (eqb c chain && eqb i room)) (w.bits c i)
-      ∙ or_more (holds was c i) (eqb i room) (meets handed chains rooms c k) (eqb c chain)
-      ∙ ap (λ (x : Bool). holds was c i || (eqb i room && x)) (sym (meets_some handed chains rooms k chain some c));
-})
-
--- all neighbours are gone through
-pub putting_end : {handed : ℕ → Option ℕ} {chains rooms : List ℕ} {room k : ℕ} {was is : List RoomSet} (m : ℕ) → k ≡ m →
-    Putting handed chains rooms room was is k → (c i : ℕ) → holds is c i ≡ (holds was c i || (eqb i room && meets handed chains rooms c m))
-putting_end {handed} {chains} {rooms} {room} {k} {was} {is} m e w = (subst (λ (j : ℕ). Putting handed chains rooms room was is j) e w).bits
-
--- the room is out of the sets of the chains among the first k neighbours that do not pass the test, and else the sets are as they were
-pub record Keeping (handed : ℕ → Option ℕ) (chains rooms : List ℕ) (test : ℕ → Bool) (room : ℕ) (was is : List RoomSet) (k : ℕ) : Type 0 where
-  pub bits : (c i : ℕ) → holds is c i ≡ (holds was c i && not (eqb i room && (meets handed chains rooms c k && not (test c))))
-
--- no neighbour is gone through yet
-pub keeping_start : {handed : ℕ → Option ℕ} {chains rooms : List ℕ} {test : ℕ → Bool} {room : ℕ} {was : List RoomSet} → Keeping handed chains rooms test room was was 0
-keeping_start {handed} {chains} {rooms} {test} {room} {was} = record {
-  bits = λ c i. rw (meets_start handed chains rooms c, and_false (eqb i room)) (sym (and_true (holds was c i)));
+      next c i
+      ∙ ap (λ (x : Bool). cond (eqb c chain) (f c i x) x) (w.bits c i)
+      ∙ once (f c i) (same c i) (meets chains rooms c points) (eqb c chain) (holds was c i)
+      ∙ ap (λ (x : Bool). cond x (f c i (holds was c i)) (holds was c i)) (sym (meets_some chains rooms points q chain some c));
 }
 
--- the neighbour is no own stone
-pub keeping_none : {handed : ℕ → Option ℕ} {chains rooms : List ℕ} {test : ℕ → Bool} {room k : ℕ} {was is after : List RoomSet} →
-    Keeping handed chains rooms test room was is k → after ≡ is → None ≡ chain_at chains rooms (handed k) → Keeping handed chains rooms test room was after (k + 1)
-keeping_none {handed} {chains} {rooms} {test} {room} {k} {was} {is} {after} w e none = subst (λ (s : List RoomSet). Keeping handed chains rooms test room was s (k + 1)) (sym e) (record {
-  bits = λ c i. w.bits c i ∙ ap (λ (x : Bool). holds was c i && not (eqb i room && (x && not (test c)))) (sym (meets_none handed chains rooms k none c));
-})
+-- the room is put in
+abbrev pub put_room : ℕ → ℕ → ℕ → Bool → Bool
+put_room room c i was = was || eqb i room
 
-and_more : (w x m e t u : Bool) → (e ≡ true → u ≡ t) → ((w && not (x && (m && not t))) && not ((e && x) && not u)) ≡ (w && not (x && ((m || e) && not t)))
-and_more false x m e t u h = refl
-and_more true false m true t u h = refl
-and_more true false m false t u h = refl
-and_more true true true true t u h = rw (h refl) (twice t)
+-- the room is taken out, unless the chain passes the test
+abbrev pub keep_room : (ℕ → Bool) → ℕ → ℕ → ℕ → Bool → Bool
+keep_room test room c i was = was && not (eqb i room && not (test c))
+
+or_twice : (x y : Bool) → ((x || y) || y) ≡ (x || y)
+or_twice true y = refl
+or_twice false true = refl
+or_twice false false = refl
+
+and_twice : (x y : Bool) → ((x && y) && y) ≡ (x && y)
+and_twice false y = refl
+and_twice true true = refl
+and_twice true false = refl
+
+-- the set of one chain was changed, as f changes its bits
+set_changed : (f : ℕ → ℕ → Bool → Bool) (sets : List RoomSet) (chain : ℕ) (s : RoomSet) → length sets ≡ 361 → chain < 361 → ((i : ℕ) → member s.words i ≡ f chain i (holds sets chain i)) →
+    (c i : ℕ) → holds (set sets chain s) c i ≡ cond (eqb c chain) (f c i (holds sets c i)) (holds sets c i)
+set_changed f sets chain s long below bits c i = elim (cases_eq c chain) [
+  | inl same ↦ subst (λ (d : ℕ). holds (set sets chain s) d i ≡ cond (eqb d chain) (f d i (holds sets d i)) (holds sets d i)) (sym same)
+      (ap (λ (t : RoomSet). member t.words i) (get_or-set_same sets chain s (record { words = [] }) (omega (arith, long)))
+      ∙ bits i
+      ∙ sym (cond-true (eqb chain chain) (f chain i (holds sets chain i)) (holds sets chain i) (eq-eqb chain chain refl)))
+  | inr other ↦ ap (λ (t : RoomSet). member t.words i) (get_or-set_other sets chain c s (record { words = [] }) other)
+      ∙ sym (cond-false (eqb c chain) (f c i (holds sets c i)) (holds sets c i) (ne_eqb c chain other))
+]
+
+-- the room is put into the set of the chain of one stone more
+pub put_step : {chains rooms : List ℕ} (room : ℕ) {was is : List RoomSet} {points : List ℕ} (q : ℕ) {chain : ℕ} (s : RoomSet) → Changed (put_room room) chains rooms was is points →
+    Some chain ≡ own_chain chains rooms q → chain < 361 → ((i : ℕ) → member s.words i ≡ (holds is chain i || eqb i room)) →
+    Changed (put_room room) chains rooms was (set is chain s) (points ++ q ∷ [])
+put_step room {is = is} q {chain} s w some below put = changed_step q chain (λ c i x. or_twice x (eqb i room)) w (length-set is chain s ∙ w.long) some (set_changed (put_room room) is chain s w.long below put)
+
+-- and taken out of it, if the chain does not pass the test
+pub keep_step : {chains rooms : List ℕ} (test : ℕ → Bool) (room : ℕ) {was is : List RoomSet} {points : List ℕ} (q : ℕ) {chain : ℕ} (s : RoomSet) → Changed (keep_room test room) chains rooms was is points →
+    Some chain ≡ own_chain chains rooms q → chain < 361 → test chain ≡ false → ((i : ℕ) → member s.words i ≡ (holds is chain i && not (eqb i room))) →
+    Changed (keep_room test room) chains rooms was (set is chain s) (points ++ q ∷ [])
+keep_step test room {is = is} q {chain} s w some below away taken =
+    changed_step q chain (λ c i x. and_twice x (not (eqb i room && not (test c)))) w (length-set is chain s ∙ w.long) some
+    (set_changed (keep_room test room) is chain s w.long below (λ i. taken i ∙ sym (rw (away, and_true (eqb i room)) refl)))
+
+-- and it stays, if the chain passes the test
+pub keep_stay : {chains rooms : List ℕ} (test : ℕ → Bool) (room : ℕ) {was is : List RoomSet} {points : List ℕ} (q : ℕ) {chain : ℕ} → Changed (keep_room test room) chains rooms was is points →
+    Some chain ≡ own_chain chains rooms q → test chain ≡ true → Changed (keep_room test room) chains rooms was is (points ++ q ∷ [])
+keep_stay test room {is = is} q {chain} w some passes =
+    changed_step q chain (λ c i x. and_twice x (not (eqb i room && not (test c)))) w w.long some (λ c i. same c i (cases_eq c chain))
   where
-    twice : (t : Bool) → (not (not t) && not (not t)) ≡ not (not t)
-    twice true = refl
-    twice false = refl
-and_more true true false true t u h = rw (h refl) refl
-and_more true true true false t u h = and_true (not (not t))
-and_more true true false false t u h = refl
+    same : (c i : ℕ) → (c ≡ chain) ⊎ (c ≡ chain → ⊥) → holds is c i ≡ cond (eqb c chain) (keep_room test room c i (holds is c i)) (holds is c i)
+    same c i (inl here) = rw (eq-eqb c chain here, ap test here ∙ passes, and_false (eqb i room)) (sym (and_true (holds is c i)))
+    same c i (inr other) = rw (ne_eqb c chain other) refl
 
--- the neighbour is a stone of that chain
-pub keeping_some : {handed : ℕ → Option ℕ} {chains rooms : List ℕ} {test : ℕ → Bool} {room k chain : ℕ} {stays : Bool} {was is new after : List RoomSet} →
-    Keeping handed chains rooms test room was is k → after ≡ new → Some chain ≡ chain_at chains rooms (handed k) → stays ≡ test chain →
-    ((c i : ℕ) → holds new c i ≡ (holds is c i && not ((eqb c chain && eqb i room) && not stays))) → Keeping handed chains rooms test room was after (k + 1)
-keeping_some {handed} {chains} {rooms} {test} {room} {k} {chain} {stays} {was} {is} {new} {after} w e some told kept =
-    subst (λ (s : List RoomSet). Keeping handed chains rooms test room was s (k + 1)) (sym e) (record {
-      bits = λ c i.
-          kept c i
-          ∙ ap (λ (x : Bool). x && not ((eqb c chain && eqb i room) && not stays)) (w.bits c i)
-          ∙ and_more (holds was c i) (eqb i room) (meets handed chains rooms c k) (eqb c chain) (test c) stays (λ same. told ∙ ap test (sym (eqb-true c chain same)))
-          ∙ ap (λ (x : Bool). holds was c i && not (eqb i room && (x && not (test c)))) (sym (meets_some handed chains rooms k chain some c));
-    })
+put_all : (w x t : Bool) → cond t (w || x) w ≡ (w || (x && t))
+put_all w true true = refl
+put_all w false true = refl
+put_all w x false = sym (rw (and_false x) (or_false w))
 
--- all neighbours are gone through
-pub keeping_end : {handed : ℕ → Option ℕ} {chains rooms : List ℕ} {test : ℕ → Bool} {room k : ℕ} {was is : List RoomSet} (m : ℕ) → k ≡ m →
-    Keeping handed chains rooms test room was is k → (c i : ℕ) → holds is c i ≡ (holds was c i && not (eqb i room && (meets handed chains rooms c m && not (test c))))
-keeping_end {handed} {chains} {rooms} {test} {room} {k} {was} {is} m e w = (subst (λ (j : ℕ). Keeping handed chains rooms test room was is j) e w).bits
+keep_all : (w x t u : Bool) → cond u (w && not (x && not t)) w ≡ (w && not (x && (u && not t)))
+keep_all w x t true = refl
+keep_all w x t false = sym (rw (and_false x) (and_true w))
+
+-- all points are gone through
+pub put_end : {chains rooms : List ℕ} (room : ℕ) {was is : List RoomSet} {points : List ℕ} (all : List ℕ) → points ≡ all →
+    Changed (put_room room) chains rooms was is points → (c i : ℕ) → holds is c i ≡ (holds was c i || (eqb i room && meets chains rooms c all))
+put_end {chains} {rooms} room {was} {is} all e w c i =
+    (subst (λ (xs : List ℕ). Changed (put_room room) chains rooms was is xs) e w).bits c i ∙ put_all (holds was c i) (eqb i room) (meets chains rooms c all)
+
+pub keep_end : {chains rooms : List ℕ} (test : ℕ → Bool) (room : ℕ) {was is : List RoomSet} {points : List ℕ} (all : List ℕ) → points ≡ all →
+    Changed (keep_room test room) chains rooms was is points → (c i : ℕ) → holds is c i ≡ (holds was c i && not (eqb i room && (meets chains rooms c all && not (test c))))
+keep_end {chains} {rooms} test room {was} {is} all e w c i =
+    (subst (λ (xs : List ℕ). Changed (keep_room test room) chains rooms was is xs) e w).bits c i ∙ keep_all (holds was c i) (eqb i room) (test c) (meets chains rooms c all)
 
 eqb_turned : (a b : ℕ) → eqb a b ≡ eqb b a
 eqb_turned a b = elim (cases_eq a b) [ inl e ↦ eq-eqb a b e ∙ sym (eq-eqb b a (sym e)) | inr other ↦ ne_eqb a b other ∙ sym (ne_eqb b a (λ e. other (sym e))) ]
@@ -171,27 +188,23 @@ wall_rest touch rooms p c i was away = elim (cases_Bool own) [
     own : Bool
     own = eqb (get_or rooms p 0) 65535
 
-empty_rest : (touch : ℕ → ℕ → Bool) (first p room c i : ℕ) (was : Bool) → ((q : ℕ) → touch q c ≡ false) → empty_bit touch first p room c i was ≡ was
-empty_rest touch first p room c i was away = elim (cases_Bool (eqb first 65535)) [
-  | inl t ↦ cond-true (eqb first 65535) (put_bit touch p room c i was) (keep_bit touch first p room c i was) t ∙ put_rest touch p room c i was (away p)
-  | inr t ↦ cond-false (eqb first 65535) (put_bit touch p room c i was) (keep_bit touch first p room c i was) t ∙ keep_rest touch first p room c i was (away first)
-]
+empty_rest : (touch : ℕ → ℕ → Bool) (first : Option ℕ) (p room c i : ℕ) (was : Bool) → ((q : ℕ) → touch q c ≡ false) → empty_bit touch first p room c i was ≡ was
+empty_rest touch None p room c i was away = put_rest touch p room c i was (away p)
+empty_rest touch (Some first) p room c i was away = keep_rest touch first p room c i was (away first)
 
 -- the sets of walls that had no room have what the points below k give, and those of chains beside no point are as they were
 pub record Walling (touch : ℕ → ℕ → Bool) (rooms : List ℕ) (old sets : List RoomSet) (k : ℕ) : Type 0 where
-  pub long : length sets ≡ length old
   pub bits : (c i : ℕ) → NoRoom old c → holds sets c i ≡ wall_bit touch rooms k c i
   pub rest : RestKept touch old sets
 
 -- no point is gone through yet
 pub walling_start : {touch : ℕ → ℕ → Bool} {rooms : List ℕ} {old : List RoomSet} → Walling touch rooms old old 0
-walling_start {touch} {rooms} = record { long = refl; bits = λ c i none. none i ∙ sym (any_none (λ y. in_room rooms i y && touch y c)); rest = λ c i away. refl }
+walling_start {touch} {rooms} = record { bits = λ c i none. none i ∙ sym (any_none (λ y. in_room rooms i y && touch y c)); rest = λ c i away. refl }
 
 -- one point more
-pub walling_step : {touch : ℕ → ℕ → Bool} {rooms : List ℕ} {old sets new : List RoomSet} {k : ℕ} → Walling touch rooms old sets k → length new ≡ length sets →
+pub walling_step : {touch : ℕ → ℕ → Bool} {rooms : List ℕ} {old sets new : List RoomSet} {k : ℕ} → Walling touch rooms old sets k →
     ((c i : ℕ) → holds new c i ≡ wall_next touch rooms k c i (holds sets c i)) → Walling touch rooms old new (k + 1)
-walling_step {touch} {rooms} {old} {sets} {new} {k} w long next = record {
-  long = long ∙ w.long;
+walling_step {touch} {rooms} {old} {sets} {new} {k} w next = record {
   bits = λ c i none. next c i ∙ step c i none (cases_Bool (eqb (get_or rooms k 0) 65535));
   rest = λ c i away. next c i ∙ wall_rest touch rooms k c i (holds sets c i) away ∙ w.rest c i away;
 }
@@ -208,27 +221,30 @@ pub walling_end : {touch : ℕ → ℕ → Bool} {rooms : List ℕ} {old sets : 
     (c i : ℕ) → NoRoom old c → holds sets c i ≡ wall_bit touch rooms n c i
 walling_end {touch} {rooms} {old} {sets} n e w = (subst (λ (j : ℕ). Walling touch rooms old sets j) e w).bits
 
+-- what is known of the first empty point below k of the room i
+abbrev Known : List ℕ → List ℕ → ℕ → ℕ → Option ℕ → Type 0
+Known chains rooms k i None = some_empty chains rooms k i ≡ false
+Known chains rooms k i (Some first) = (first < k) × (empty_in chains rooms i first ≡ true)
+
 -- the sets of vital rooms that had no room have what the points below k give, those of chains beside no point are as they were,
 -- and the first empty points of the rooms among these are known
-pub record Finding (touch : ℕ → ℕ → Bool) (chains rooms firsts : List ℕ) (old sets : List RoomSet) (k : ℕ) : Type 0 where
-  pub firsts_long : length firsts ≡ 361
-  pub sets_long : length sets ≡ length old
-  pub unset : (i : ℕ) → i < 361 → get_or firsts i 0 ≡ 65535 → some_empty chains rooms k i ≡ false
-  pub found : (i : ℕ) → i < 361 → get_or firsts i 0 ≢ 65535 → (get_or firsts i 0 < k) × (empty_in chains rooms i (get_or firsts i 0) ≡ true)
+pub record Finding (touch : ℕ → ℕ → Bool) (chains rooms : List ℕ) (firsts : List (Option ℕ)) (old sets : List RoomSet) (k : ℕ) : Type 0 where
+  pub known : (i : ℕ) → i < 361 → Known chains rooms k i (get_or firsts i None)
   pub bits : (c i : ℕ) → NoRoom old c → holds sets c i ≡ vital_bit touch chains rooms k c i
   pub rest : RestKept touch old sets
 
 -- no point is gone through yet
-pub finding_start : {touch : ℕ → ℕ → Bool} {chains rooms firsts : List ℕ} {old : List RoomSet} →
-    length firsts ≡ 361 → ((i : ℕ) → i < 361 → get_or firsts i 0 ≡ 65535) → Finding touch chains rooms firsts old old 0
-finding_start {touch} {chains} {rooms} firsts_long unset = record {
-  firsts_long = firsts_long;
-  sets_long = refl;
-  unset = λ i l e. any_none (empty_in chains rooms i);
-  found = λ i l e. absurd (e (unset i l));
+pub finding_start : {touch : ℕ → ℕ → Bool} {chains rooms : List ℕ} {old : List RoomSet} → Finding touch chains rooms (replicate 361 None) old old 0
+finding_start {touch} {chains} {rooms} = record {
+  known = λ i l. subst (λ (first : Option ℕ). Known chains rooms 0 i first) (sym (get_or-replicate 361 i None None l)) (any_none (empty_in chains rooms i));
   bits = λ c i none. none i ∙ sym (rw (any_none (empty_in chains rooms i)) refl);
   rest = λ c i away. refl;
 }
+
+-- one point more that is no empty point of the room
+known_same : (chains rooms : List ℕ) (k i : ℕ) (first : Option ℕ) → some_empty chains rooms (k + 1) i ≡ some_empty chains rooms k i → Known chains rooms k i first → Known chains rooms (k + 1) i first
+known_same chains rooms k i None same none = same ∙ none
+known_same chains rooms k i (Some first) same (below, there) = (omega arith, there)
 
 fresh_bit : (s a x y t : Bool) → x ≡ y → (y ≡ true → s ≡ false) → (s ≡ false → a ≡ false) → ((s && not a) || (x && t)) ≡ ((s || y) && not (a || (y && not t)))
 fresh_bit s a x false t e none quiet = rw (e, or_false s, or_false a) (or_false (s && not a))
@@ -258,13 +274,10 @@ away_none touch chains rooms k c i none = elim (cases_Bool (some_away touch chai
 ]
 
 -- a stone stands there
-finding_stone : {touch : ℕ → ℕ → Bool} {chains rooms firsts : List ℕ} {old sets new : List RoomSet} {k : ℕ} → Finding touch chains rooms firsts old sets k → length new ≡ length sets →
+finding_stone : {touch : ℕ → ℕ → Bool} {chains rooms : List ℕ} {firsts : List (Option ℕ)} {old sets new : List RoomSet} {k : ℕ} → Finding touch chains rooms firsts old sets k →
     eqb (get_or chains k 0) 65535 ≡ false → ((c i : ℕ) → holds new c i ≡ holds sets c i) → Finding touch chains rooms firsts old new (k + 1)
-finding_stone {touch} {chains} {rooms} {firsts} {old} {sets} {new} {k} w long stone same = record {
-  firsts_long = w.firsts_long;
-  sets_long = long ∙ w.sets_long;
-  unset = λ i l u. some_same i ∙ w.unset i l u;
-  found = λ i l u. (omega (arith, (w.found i l u).0), (w.found i l u).1);
+finding_stone {touch} {chains} {rooms} {firsts} {old} {sets} {new} {k} w stone same = record {
+  known = λ i l. known_same chains rooms k i (get_or firsts i None) (some_same i) (w.known i l);
   bits = λ c i none. same c i ∙ w.bits c i none ∙ sym (rw (some_same i, away_same c i) refl);
   rest = λ c i away. same c i ∙ w.rest c i away;
 }
@@ -276,37 +289,14 @@ finding_stone {touch} {chains} {rooms} {firsts} {old} {sets} {new} {k} w long st
     away_same c i = any_more (λ e. empty_in chains rooms i e && not (touch e c)) k ∙ rw stone (or_false (some_away touch chains rooms k c i))
 
 -- an empty point of a room
-finding_empty : {touch : ℕ → ℕ → Bool} {chains rooms firsts : List ℕ} {old sets new : List RoomSet} {k : ℕ} → Finding touch chains rooms firsts old sets k → length new ≡ length sets →
-    k < 65535 → eqb (get_or chains k 0) 65535 ≡ true → get_or rooms k 0 < 361 →
-    ((c i : ℕ) → holds new c i ≡ empty_bit touch (get_or firsts (get_or rooms k 0) 0) k (get_or rooms k 0) c i (holds sets c i)) →
-    Finding touch chains rooms (empty_firsts firsts k (get_or rooms k 0)) old new (k + 1)
-finding_empty {touch} {chains} {rooms} {firsts} {old} {sets} {new} {k} w long small empty below put = elim (cases_Bool (eqb known 65535)) [
-  | inl t ↦ subst (λ (s : List ℕ). Finding touch chains rooms s old new (k + 1)) (sym (cond-true (eqb known 65535) (set firsts room k) firsts t)) (record {
-    firsts_long = length-set firsts room k ∙ w.firsts_long;
-    sets_long = long ∙ w.sets_long;
-    unset = λ i l u. unset_fresh i l u (cases_eq i room);
-    found = λ i l u. found_fresh i l u (cases_eq i room);
-    bits = λ c i none. bits_fresh t c i none;
-    rest = rest_kept;
-  })
-  | inr t ↦ subst (λ (s : List ℕ). Finding touch chains rooms s old new (k + 1)) (sym (cond-false (eqb known 65535) (set firsts room k) firsts t)) (record {
-    firsts_long = w.firsts_long;
-    sets_long = long ∙ w.sets_long;
-    unset = λ i l u. some_more i ∙ rw (w.unset i l u) (ne_eqb room i (λ same. eqb-false known 65535 t (ap (λ (j : ℕ). get_or firsts j 0) same ∙ u)));
-    found = λ i l u. (omega (arith, (w.found i l u).0), (w.found i l u).1);
-    bits = λ c i none. bits_later t c i none;
-    rest = rest_kept;
-  })
-]
+finding_empty : {touch : ℕ → ℕ → Bool} {chains rooms : List ℕ} {firsts : List (Option ℕ)} {old sets new : List RoomSet} {k : ℕ} → Finding touch chains rooms firsts old sets k → length firsts ≡ 361 →
+    eqb (get_or chains k 0) 65535 ≡ true → get_or rooms k 0 < 361 →
+    ((c i : ℕ) → holds new c i ≡ empty_bit touch (get_or firsts (get_or rooms k 0) None) k (get_or rooms k 0) c i (holds sets c i)) →
+    Finding touch chains rooms (empty_firsts firsts k (get_or rooms k 0) (get_or firsts (get_or rooms k 0) None)) old new (k + 1)
+finding_empty {touch} {chains} {rooms} {firsts} {old} {sets} {new} {k} w long empty below put = by (get_or firsts room None) refl
   where
     room : ℕ
     room = get_or rooms k 0
-
-    known : ℕ
-    known = get_or firsts room 0
-
-    inside : (i : ℕ) → eqb room i ≡ true → i < 361
-    inside i same = let z = eqb-true room i same in omega arith
 
     some_more : (i : ℕ) → some_empty chains rooms (k + 1) i ≡ (some_empty chains rooms k i || eqb room i)
     some_more i = any_more (empty_in chains rooms i) k ∙ rw empty refl
@@ -314,74 +304,79 @@ finding_empty {touch} {chains} {rooms} {firsts} {old} {sets} {new} {k} w long sm
     away_more : (c i : ℕ) → some_away touch chains rooms (k + 1) c i ≡ (some_away touch chains rooms k c i || (eqb room i && not (touch k c)))
     away_more c i = any_more (λ p. empty_in chains rooms i p && not (touch p c)) k ∙ rw empty refl
 
-    there : eqb known 65535 ≡ false → (known < k) × (empty_in chains rooms room known ≡ true)
-    there t = w.found room below (eqb-false known 65535 t)
-
-    in_own : (i : ℕ) → eqb room i ≡ true → eqb known 65535 ≡ false → empty_in chains rooms i known ≡ true
-    in_own i same t = subst (λ (j : ℕ). empty_in chains rooms j known ≡ true) (eqb-true room i same) (there t).1
-
-    was : ℕ → ℕ → Bool
-    was c i = vital_bit touch chains rooms k c i
-
-    stepped : (c i : ℕ) → NoRoom old c → holds new c i ≡ empty_bit touch known k room c i (was c i)
-    stepped c i none = put c i ∙ ap (empty_bit touch known k room c i) (w.bits c i none)
-
-    rest_kept : RestKept touch old new
-    rest_kept c i away = put c i ∙ empty_rest touch known k room c i (holds sets c i) away ∙ w.rest c i away
-
     more : (c i : ℕ) → vital_bit touch chains rooms (k + 1) c i ≡ ((some_empty chains rooms k i || eqb room i) && not (some_away touch chains rooms k c i || (eqb room i && not (touch k c))))
     more c i = rw (some_more i, away_more c i) refl
 
-    bits_fresh : eqb known 65535 ≡ true → (c i : ℕ) → NoRoom old c → holds new c i ≡ vital_bit touch chains rooms (k + 1) c i
-    bits_fresh t c i none =
-        stepped c i none
-        ∙ cond-true (eqb known 65535) (put_bit touch k room c i (was c i)) (keep_bit touch known k room c i (was c i)) t
-        ∙ fresh_bit (some_empty chains rooms k i) (some_away touch chains rooms k c i) (eqb i room) (eqb room i) (touch k c) (eqb_turned i room)
-        (λ same. w.unset i (inside i same) (ap (λ (j : ℕ). get_or firsts j 0) (sym (eqb-true room i same)) ∙ eqb-true known 65535 t)) (away_none touch chains rooms k c i)
+    known_here : (first : Option ℕ) → get_or firsts room None ≡ first → Known chains rooms k room first
+    known_here first e = subst (λ (o : Option ℕ). Known chains rooms k room o) e (w.known room below)
+
+    known_there : (i : ℕ) → i < 361 → (i ≡ room → ⊥) → Known chains rooms (k + 1) i (get_or firsts i None)
+    known_there i l other = known_same chains rooms k i (get_or firsts i None) (some_more i ∙ rw (ne_eqb room i (λ same. other (sym same))) (or_false (some_empty chains rooms k i))) (w.known i l)
+
+    in_own : (first i : ℕ) → eqb room i ≡ true → empty_in chains rooms room first ≡ true → empty_in chains rooms i first ≡ true
+    in_own first i same there = subst (λ (j : ℕ). empty_in chains rooms j first ≡ true) (eqb-true room i same) there
+
+    stepped : (first : Option ℕ) → get_or firsts room None ≡ first → (c i : ℕ) → NoRoom old c → holds new c i ≡ empty_bit touch first k room c i (vital_bit touch chains rooms k c i)
+    stepped first e c i none = put c i ∙ ap (λ (o : Option ℕ). empty_bit touch o k room c i (holds sets c i)) e ∙ ap (empty_bit touch first k room c i) (w.bits c i none)
+
+    rest_kept : RestKept touch old new
+    rest_kept c i away = put c i ∙ empty_rest touch (get_or firsts room None) k room c i (holds sets c i) away ∙ w.rest c i away
+
+    bits_later : (first : ℕ) → get_or firsts room None ≡ Some first → (first < k) × (empty_in chains rooms room first ≡ true) → (c i : ℕ) → NoRoom old c → holds new c i ≡ vital_bit touch chains rooms (k + 1) c i
+    bits_later first e (before, there) c i none =
+        stepped (Some first) e c i none
+        ∙ later_bit (some_empty chains rooms k i) (some_away touch chains rooms k c i) (eqb i room) (eqb room i) (touch first c) (touch k c) (eqb_turned i room)
+        (λ same. true_any (empty_in chains rooms i) k first before (in_own first i same there))
+        (λ same away. true_any (λ p. empty_in chains rooms i p && not (touch p c)) k first before
+        (and_from (empty_in chains rooms i first) (not (touch first c)) (in_own first i same there) (not_from_false (touch first c) away)))
         ∙ sym (more c i)
 
-    bits_later : eqb known 65535 ≡ false → (c i : ℕ) → NoRoom old c → holds new c i ≡ vital_bit touch chains rooms (k + 1) c i
-    bits_later t c i none =
-        stepped c i none
-        ∙ cond-false (eqb known 65535) (put_bit touch k room c i (was c i)) (keep_bit touch known k room c i (was c i)) t
-        ∙ later_bit (some_empty chains rooms k i) (some_away touch chains rooms k c i) (eqb i room) (eqb room i) (touch known c) (touch k c) (eqb_turned i room)
-        (λ same. true_any (empty_in chains rooms i) k known (there t).0 (in_own i same t))
-        (λ same away. true_any (λ p. empty_in chains rooms i p && not (touch p c)) k known (there t).0
-        (and_from (empty_in chains rooms i known) (not (touch known c)) (in_own i same t) (not_from_false (touch known c) away)))
-        ∙ sym (more c i)
-
-    unset_fresh : (i : ℕ) → i < 361 → get_or (set firsts room k) i 0 ≡ 65535 → (i ≡ room) ⊎ (i ≡ room → ⊥) → some_empty chains rooms (k + 1) i ≡ false
-    unset_fresh i l u (inl same) = absurd (let z : get_or (set firsts room k) i 0 ≡ k = ap (λ (j : ℕ). get_or (set firsts room k) j 0) same ∙ get_or-set_same firsts room k 0 (omega (arith, w.firsts_long)) in omega arith)
-    unset_fresh i l u (inr other) = some_more i ∙ rw (w.unset i l (sym (get_or-set_other firsts room i k 0 other) ∙ u)) (ne_eqb room i (λ same. other (sym same)))
-
-    found_fresh : (i : ℕ) → i < 361 → get_or (set firsts room k) i 0 ≢ 65535 → (i ≡ room) ⊎ (i ≡ room → ⊥) →
-        (get_or (set firsts room k) i 0 < k + 1) × (empty_in chains rooms i (get_or (set firsts room k) i 0) ≡ true)
-    found_fresh i l u (inl same) =
-        let z : get_or (set firsts room k) i 0 ≡ k = ap (λ (j : ℕ). get_or (set firsts room k) j 0) same ∙ get_or-set_same firsts room k 0 (omega (arith, w.firsts_long)) in
-        (omega arith, rw z (and_from (eqb (get_or chains k 0) 65535) (eqb room i) empty (eq-eqb room i (sym same))))
-    found_fresh i l u (inr other) =
-        let z : get_or (set firsts room k) i 0 ≡ get_or firsts i 0 = get_or-set_other firsts room i k 0 other in
-        let was = w.found i l (λ h. u (z ∙ h)) in
-        (omega (arith, was.0), subst (λ (p : ℕ). empty_in chains rooms i p ≡ true) (sym z) was.1)
+    by : (first : Option ℕ) → get_or firsts room None ≡ first → Finding touch chains rooms (empty_firsts firsts k room first) old new (k + 1)
+    by None e = record {
+      known = λ i l. elim (cases_eq i room) [
+        | inl same ↦ subst (λ (o : Option ℕ). Known chains rooms (k + 1) i o)
+            (sym (ap (λ (j : ℕ). get_or (set firsts room (Some k)) j None) same ∙ get_or-set_same firsts room (Some k) None (omega (arith, long))))
+            (omega arith, and_from (eqb (get_or chains k 0) 65535) (eqb room i) empty (eq-eqb room i (sym same)))
+        | inr other ↦ subst (λ (o : Option ℕ). Known chains rooms (k + 1) i o) (sym (get_or-set_other firsts room i (Some k) None other)) (known_there i l other)
+      ];
+      bits = λ c i none.
+          stepped None e c i none
+          ∙ fresh_bit (some_empty chains rooms k i) (some_away touch chains rooms k c i) (eqb i room) (eqb room i) (touch k c) (eqb_turned i room)
+          (λ same. ap (some_empty chains rooms k) (sym (eqb-true room i same)) ∙ known_here None e) (away_none touch chains rooms k c i)
+          ∙ sym (more c i);
+      rest = rest_kept;
+    }
+    by (Some first) e = record {
+      known = λ i l. elim (cases_eq i room) [
+        | inl same ↦ (let (before, there) = known_here (Some first) e in
+            subst (λ (o : Option ℕ). Known chains rooms (k + 1) i o) (sym (ap (λ (j : ℕ). get_or firsts j None) same ∙ e)) (omega arith, in_own first i (eq-eqb room i (sym same)) there))
+        | inr other ↦ known_there i l other
+      ];
+      bits = bits_later first e (known_here (Some first) e);
+      rest = rest_kept;
+    }
 
 -- an empty point has a room, and its label is a point
 pub empty_room : {n : ℕ} {chains rooms : List ℕ} → Paired n chains rooms → n ≤ 361 → (p : ℕ) → p < n → get_or chains p 0 ≡ 65535 → get_or rooms p 0 < n
 empty_room w small p below empty = w.room_below p below (λ own. let l = w.own_chain p below own in omega arith)
 
 -- one point more
-pub finding_step : {touch : ℕ → ℕ → Bool} {n : ℕ} {chains rooms firsts : List ℕ} {old sets new : List RoomSet} {k : ℕ} (new_firsts : List ℕ) → Paired n chains rooms → n ≤ 361 → k < n →
-    Finding touch chains rooms firsts old sets k → length new ≡ length sets → new_firsts ≡ firsts_next chains rooms firsts k →
+pub finding_step : {touch : ℕ → ℕ → Bool} {n : ℕ} {chains rooms : List ℕ} {firsts : List (Option ℕ)} {old sets new : List RoomSet} {k : ℕ} (new_firsts : List (Option ℕ)) → Paired n chains rooms → n ≤ 361 → k < n →
+    Finding touch chains rooms firsts old sets k → length firsts ≡ 361 → new_firsts ≡ firsts_next chains rooms firsts k →
     ((c i : ℕ) → holds new c i ≡ vital_next touch chains rooms firsts k c i (holds sets c i)) → Finding touch chains rooms new_firsts old new (k + 1)
-finding_step {touch} {n} {chains} {rooms} {firsts} {old} {sets} {new} {k} new_firsts pair small below w long first next = subst (λ (s : List ℕ). Finding touch chains rooms s old new (k + 1)) (sym first)
+finding_step {touch} {n} {chains} {rooms} {firsts} {old} {sets} {new} {k} new_firsts pair small below w long first next = subst (λ (s : List (Option ℕ)). Finding touch chains rooms s old new (k + 1)) (sym first)
     (elim (cases_Bool vacant) [
-      | inl t ↦ subst (λ (s : List ℕ). Finding touch chains rooms s old new (k + 1)) (sym (cond-true vacant (empty_firsts firsts k room) firsts t))
-          (finding_empty w long (omega arith) t (inside t) (λ c i. next c i ∙ cond-true vacant (empty_bit touch (get_or firsts room 0) k room c i (holds sets c i)) (holds sets c i) t))
-      | inr t ↦ subst (λ (s : List ℕ). Finding touch chains rooms s old new (k + 1)) (sym (cond-false vacant (empty_firsts firsts k room) firsts t))
-          (finding_stone w long t (λ c i. next c i ∙ cond-false vacant (empty_bit touch (get_or firsts room 0) k room c i (holds sets c i)) (holds sets c i) t))
+      | inl t ↦ subst (λ (s : List (Option ℕ)). Finding touch chains rooms s old new (k + 1)) (sym (cond-true vacant (empty_firsts firsts k room known) firsts t))
+          (finding_empty w long t (inside t) (λ c i. next c i ∙ cond-true vacant (empty_bit touch known k room c i (holds sets c i)) (holds sets c i) t))
+      | inr t ↦ subst (λ (s : List (Option ℕ)). Finding touch chains rooms s old new (k + 1)) (sym (cond-false vacant (empty_firsts firsts k room known) firsts t))
+          (finding_stone w t (λ c i. next c i ∙ cond-false vacant (empty_bit touch known k room c i (holds sets c i)) (holds sets c i) t))
     ])
   where
     room : ℕ
     room = get_or rooms k 0
+
+    known : Option ℕ
+    known = get_or firsts room None
 
     vacant : Bool
     vacant = eqb (get_or chains k 0) 65535
@@ -390,14 +385,14 @@ finding_step {touch} {n} {chains} {rooms} {firsts} {old} {sets} {new} {k} new_fi
     inside t = let l = empty_room pair small k below (eqb-true (get_or chains k 0) 65535 t) in omega arith
 
 -- all points are gone through
-pub finding_end : {touch : ℕ → ℕ → Bool} {chains rooms firsts : List ℕ} {old sets : List RoomSet} {k : ℕ} (n : ℕ) → k ≡ n → Finding touch chains rooms firsts old sets k →
+pub finding_end : {touch : ℕ → ℕ → Bool} {chains rooms : List ℕ} {firsts : List (Option ℕ)} {old sets : List RoomSet} {k : ℕ} (n : ℕ) → k ≡ n → Finding touch chains rooms firsts old sets k →
     (c i : ℕ) → NoRoom old c → holds sets c i ≡ vital_bit touch chains rooms n c i
 finding_end {touch} {chains} {rooms} {firsts} {old} {sets} n e w = (subst (λ (j : ℕ). Finding touch chains rooms firsts old sets j) e w).bits
 
 -- sets without a room
-pub none_held : (n : ℕ) (s : RoomSet) → ((i : ℕ) → member s.words i ≡ false) → (c i : ℕ) → holds (replicate n s) c i ≡ false
-none_held n s none c i = elim (cases_lt c n) [
-  | inl l ↦ ap (λ (t : RoomSet). member t.words i) (get_or-replicate n c s (record { words = [] }) l) ∙ none i
+pub none_held : (n : ℕ) (s : RoomSet) (c i : ℕ) → member s.words i ≡ false → holds (replicate n s) c i ≡ false
+none_held n s c i none = elim (cases_lt c n) [
+  | inl l ↦ ap (λ (t : RoomSet). member t.words i) (get_or-replicate n c s (record { words = [] }) l) ∙ none
   | inr l ↦ ap (λ (t : RoomSet). member t.words i) (get_or_past (replicate n s) c (record { words = [] }) (simp length-replicate l)) ∙ member_past [] i (omega arith)
 ]
 

@@ -1,5 +1,6 @@
 pub mod Bits
 pub mod Numbered
+pub mod Parted
 pub mod Regioned
 pub mod Regions
 pub mod Safe

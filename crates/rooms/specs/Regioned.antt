@@ -9,9 +9,9 @@ use Rattle.rooms.specs.Numbered.{RoomLabels, VitalRooms, WallRooms}
 use Rattle.rooms.specs.Tables.{set_of, holds}
 use Rattle.rooms.specs.declared.region_sets.Regions.{Regions}
 
--- the class of a point by its byte: 0 for an own stone and 1 for what a room is made of
-abbrev pub class_of : ℕ → ℕ → ℕ
-class_of own byte = cond (byte == own) 0 1
+-- the byte of a point without the other side's stones: an own stone has its own, and every other point is empty
+abbrev pub own_byte : ℕ → ℕ → ℕ
+own_byte own byte = cond (byte == own) own 46
 
 -- after both slices were written: the chains of both colours, the rooms of the judged side, nothing past the board,
 -- and the set for the first point of each own chain holds exactly the rooms that are vital to it, or that have it for a wall

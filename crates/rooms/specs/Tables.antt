@@ -1,7 +1,8 @@
 -- Sets of rooms, one for each chain, as two passes over the points make them from the labels of chains and rooms.
 -- An own stone has no room and an empty point no chain: their labels are 65,535. Assumes nothing: these are definitions.
 use Rattle.std.specs.Prelude.{◌≡◌, ℕ, ◌<◌, ◌≤◌, Bool, false, cond, not, ◌&&◌, ◌||◌, ◌≢◌, List, [], length, Some, None, Option, ◌==◌, nat_le, nat_lt, slice_index, slice_index_or, slice_set}
-use Rattle.grid.specs.Neighbours.{slots, hand}
+use Rattle.std.specs.List.{list_any}
+use Rattle.grid.specs.Neighbours.{neighbours_of}
 use Rattle.grid.specs.Refusals.{unless}
 use Rattle.grid.specs.declared.size.Size.{Size}
 use Rattle.chains.specs.Computed.{any}
@@ -27,23 +28,22 @@ pub record Paired (n : ℕ) (chains rooms : List ℕ) : Type 0 where
   pub own_chain : (q : ℕ) → q < n → slice_index rooms q ≡ 65535 → slice_index chains q < n
   pub room_below : (y : ℕ) → y < n → slice_index rooms y ≢ 65535 → slice_index rooms y < n
 
--- the chain of a neighbour that is handed out, if it is an own stone
-abbrev pub chain_at : List ℕ → List ℕ → Option ℕ → Option ℕ
-chain_at chains rooms None = None
-chain_at chains rooms (Some q) = cond (slice_index rooms q == 65535) (Some (slice_index chains q)) None
+-- the chain of the own stone on q, if one stands there
+abbrev pub own_chain : List ℕ → List ℕ → ℕ → Option ℕ
+own_chain chains rooms q = cond (slice_index rooms q == 65535) (Some (slice_index chains q)) None
 
 -- whether that is the chain c
 abbrev pub is_chain : ℕ → Option ℕ → Bool
 is_chain c None = false
 is_chain c (Some d) = c == d
 
--- whether a stone of the chain c is among the first k neighbours that are handed out
-abbrev pub meets : (ℕ → Option ℕ) → List ℕ → List ℕ → ℕ → ℕ → Bool
-meets handed chains rooms c k = any (λ j. is_chain c (chain_at chains rooms (handed j))) k
+-- whether a stone of the chain c is among these points
+abbrev pub meets : List ℕ → List ℕ → ℕ → List ℕ → Bool
+meets chains rooms c = list_any (λ q. is_chain c (own_chain chains rooms q))
 
 -- whether a stone of the chain c is beside p
 abbrev pub touches : Size → List ℕ → List ℕ → ℕ → ℕ → Bool
-touches size chains rooms p c = meets (hand size.width size.height p) chains rooms c (slots size.width size.height p)
+touches size chains rooms p c = meets chains rooms c (neighbours_of size.width size.height p)
 
 -- whether y is a point of the room i
 abbrev pub in_room : List ℕ → ℕ → ℕ → Bool
@@ -78,28 +78,32 @@ abbrev pub keep_bit : (ℕ → ℕ → Bool) → ℕ → ℕ → ℕ → ℕ →
 keep_bit touch from p room c i was = was && not (i == room && (touch from c && not (touch p c)))
 
 -- the bit after an empty point p of the room, by the first empty point of that room so far
-abbrev pub empty_bit : (ℕ → ℕ → Bool) → ℕ → ℕ → ℕ → ℕ → ℕ → Bool → Bool
-empty_bit touch first p room c i was = cond (first == 65535) (put_bit touch p room c i was) (keep_bit touch first p room c i was)
+abbrev pub empty_bit : (ℕ → ℕ → Bool) → Option ℕ → ℕ → ℕ → ℕ → ℕ → Bool → Bool
+empty_bit touch None p room c i was = put_bit touch p room c i was
+empty_bit touch (Some first) p room c i was = keep_bit touch first p room c i was
 
--- the first empty points after an empty point p of the room
-abbrev pub empty_firsts : List ℕ → ℕ → ℕ → List ℕ
-empty_firsts firsts p room = cond ((slice_index firsts room) == 65535) (slice_set firsts room p) firsts
+-- the first empty points after an empty point p of the room, by the one that was known of that room
+abbrev pub empty_firsts : List (Option ℕ) → ℕ → ℕ → Option ℕ → List (Option ℕ)
+empty_firsts firsts p room None = slice_set firsts room (Some p)
+empty_firsts firsts p room (Some first) = firsts
 
 -- the bit of a wall after the point p
 abbrev pub wall_next : (ℕ → ℕ → Bool) → List ℕ → ℕ → ℕ → ℕ → Bool → Bool
 wall_next touch rooms p c i was = cond (slice_index rooms p == 65535) was (put_bit touch p (slice_index rooms p) c i was)
 
 -- the bit of a vital room after the point p
-abbrev pub vital_next : (ℕ → ℕ → Bool) → List ℕ → List ℕ → List ℕ → ℕ → ℕ → ℕ → Bool → Bool
-vital_next touch chains rooms firsts p c i was = cond (slice_index chains p == 65535) (empty_bit touch (slice_index firsts (slice_index rooms p)) p (slice_index rooms p) c i was) was
+abbrev pub vital_next : (ℕ → ℕ → Bool) → List ℕ → List ℕ → List (Option ℕ) → ℕ → ℕ → ℕ → Bool → Bool
+vital_next touch chains rooms firsts p c i was =
+    cond (slice_index chains p == 65535) (empty_bit touch (slice_index_or firsts (slice_index rooms p) None) p (slice_index rooms p) c i was) was
 
 -- and the first empty points
-abbrev pub firsts_next : List ℕ → List ℕ → List ℕ → ℕ → List ℕ
-firsts_next chains rooms firsts p = cond (slice_index chains p == 65535) (empty_firsts firsts p (slice_index rooms p)) firsts
+abbrev pub firsts_next : List ℕ → List ℕ → List (Option ℕ) → ℕ → List (Option ℕ)
+firsts_next chains rooms firsts p =
+    cond (slice_index chains p == 65535) (empty_firsts firsts p (slice_index rooms p) (slice_index_or firsts (slice_index rooms p) None)) firsts
 
 -- whether c is the first point of an own chain
 abbrev pub own_first : List ℕ → List ℕ → ℕ → Bool
-own_first chains rooms c = slice_index rooms c == 65535 && slice_index chains c == c
+own_first chains rooms c = is_chain c (own_chain chains rooms c)
 
 -- the bit after all rooms have been taken out of the sets of the own chains whose first points are below k
 abbrev pub clear_bit : List ℕ → List ℕ → ℕ → ℕ → Bool → Bool

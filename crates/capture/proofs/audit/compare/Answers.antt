@@ -1,34 +1,26 @@
-use Rattle.chains.specs.Sized.{seen}
-use Rattle.capture.proofs.Verdicts.{verdict_right, verdict_missing, verdict_no_stone, verdict_too_many, wrong_unheld}
+use Rattle.std.proofs.Common.{rules}
+use Rattle.capture.proofs.Verdicts.{comparing, found_in, found_below, verdict_right, verdict_missing, verdict_no_stone, verdict_too_many, shown_stone}
 use Rattle.capture.proofs.audit.compare.Goals as goal
 
 pub returns-in_default : goal.returns-in_default
 returns-in_default c =
-    verdict_right c.args.position.size.width c.args.position.size.height (seen c.args.position.size c.args.position.cells c.args.colour) c.args.marks.now c.args.judged.now.marked c.args.moves.now
-    c.requires.long c.requires.stands c.requires.judges c.in_default.ensures
+    verdict_right c.args.moves.now (comparing c.args.judgement.now c.args.marks.now c.requires.long (search rules)) (found_in c.args.marks.now c.in_default.ensures c.marks.ensures)
+
+pub bounds-marks-point : goal.bounds-marks-point
+bounds-marks-point c = found_below (comparing c.args.judgement.now c.args.marks.now c.requires.long (search rules)) (found_in c.args.marks.now c.in-Some.ensures c.marks.ensures)
 
 pub returns-then-marks-point-ne-MARKED : goal.returns-then-marks-point-ne-MARKED
 returns-then-marks-point-ne-MARKED c =
-    verdict_missing c.args.position.size.width c.args.position.size.height (seen c.args.position.size c.args.position.cells c.args.colour) c.args.marks.now c.args.judged.now.marked c.args.moves.now
-    c.in-Some.point c.requires.long c.requires.judges c.in-Some.ensures c.if-marks-point-ne-MARKED.true
+    verdict_missing c.args.moves.now (comparing c.args.judgement.now c.args.marks.now c.requires.long (search rules)) (found_in c.args.marks.now c.in-Some.ensures c.marks.ensures)
+    c.if-marks-point-ne-MARKED.true
 
-pub returns-then-not-is_own : goal.returns-then-not-is_own
-returns-then-not-is_own c =
-    verdict_no_stone c.args.position.size.width c.args.position.size.height (seen c.args.position.size c.args.position.cells c.args.colour) c.args.marks.now c.args.judged.now.marked c.args.moves.now
-    c.in-Some.point c.requires.long c.requires.judges c.in-Some.ensures c.if-marks-point-ne-MARKED.false (c.is_own.ensures.no c.if-not-is_own.true)
+pub returns-in-Ok : goal.returns-in-Ok
+returns-in-Ok c =
+    let j = c.args.judgement.now in
+    verdict_too_many (comparing j c.args.marks.now c.requires.long (search rules)) (found_in c.args.marks.now c.in-Some.ensures c.marks.ensures) c.if-marks-point-ne-MARKED.false
+    (shown_stone j.position j.colour j.marks c.in-Some.point _ c.in-Ok.ensures.answer.0) c.in-Ok.ensures.answer.1
 
-pub write_row-count-requires : goal.write_row-count-requires
-write_row-count-requires c =
-    let stone = c.is_own.ensures.yes c.if-not-is_own.false in
-    record {
-      long = c.requires.written;
-      stands = c.requires.stands;
-      stone = stone;
-      unheld = wrong_unheld c.args.position.size.width c.args.position.size.height (seen c.args.position.size c.args.position.cells c.args.colour) c.args.marks.now c.args.judged.now.marked
-          c.in-Some.point c.requires.judges c.in-Some.ensures c.if-marks-point-ne-MARKED.false stone;
-    }
-
-pub returns : goal.returns
-returns c =
-    verdict_too_many c.args.position.size.width c.args.position.size.height (seen c.args.position.size c.args.position.cells c.args.colour) c.args.marks.now c.args.judged.now.marked
-    c.in-Some.point c.requires.long c.requires.judges c.in-Some.ensures c.if-marks-point-ne-MARKED.false (c.is_own.ensures.yes c.if-not-is_own.false) c.write_row-count.ensures
+pub returns-in-Err : goal.returns-in-Err
+returns-in-Err c =
+    verdict_no_stone c.args.judgement.now (comparing c.args.judgement.now c.args.marks.now c.requires.long (search rules)) (found_in c.args.marks.now c.in-Some.ensures c.marks.ensures)
+    c.if-marks-point-ne-MARKED.false c.requires.written c.in-Err.ensures.answer

@@ -1,12 +1,14 @@
-use Rattle.std.proofs.Common.{◌≡◌, ℕ, drop, ◌∙◌, subst, arith}
+use Rattle.std.proofs.Common.{◌≡◌, ℕ, List, drop, get_or, sym, ap, ◌∙◌, subst, arith}
 use Rattle.grid.specs.Grid.{points}
 use Rattle.grid.proofs.Square.{graph}
-use Rattle.chains.proofs.Labelling.{labelling_start, labelling_skip, labelling_step, labelling_end, past_same}
+use Rattle.chains.proofs.Labelling.{labelling_start, labelling_skip, labelling_step, labelling_end, past_same, taken_off, others_kept}
 use Rattle.chains.proofs.labels.label_points.Goals as goal
 use Rattle.chains.proofs.labels.label_points.Goals.{then-classes-p+then-labels-p, else-classes-p, else-classes-p-via-then-classes-p+else-labels-p, else-classes-p-via-else-classes-p}
 
 pub loop-p-init : goal.loop-p-init
-loop-p-init c = labelling_start (λ q l. c.clear.ensures.cleared q (omega arith))
+loop-p-init c =
+    let same : c.points.result ≡ points c.args.size.width c.args.size.height = omega arith in
+    labelling_start (λ q l. subst (λ (xs : List ℕ). get_or xs q 0 ≡ 65535) (sym c.clear.ensures) (taken_off c.points.result q c.args.labels.now (omega arith)))
 
 pub loop-p-preserved : goal.loop-p-preserved
 loop-p-preserved c =
@@ -28,5 +30,5 @@ returns c =
     record {
       firsts = labelling_end c.loop-p.invariant (omega arith);
       past = past_same c.loop-p.labels c.clear.new.labels (omega arith) c.loop-p.invariant.past
-          ∙ subst (λ (i : ℕ). drop i c.clear.new.labels ≡ drop i c.args.labels.now) same c.clear.ensures.past;
+          ∙ subst (λ (i : ℕ). drop i c.clear.new.labels ≡ drop i c.args.labels.now) same (ap (drop c.points.result) c.clear.ensures ∙ others_kept c.points.result c.args.labels.now);
     }

@@ -1,7 +1,7 @@
-use Rattle.std.proofs.Common.{◌∙◌, arith}
+use Rattle.std.proofs.Common.{arith}
 use Rattle.std.proofs.lemmas.Result.{err_from_is_err_and}
 use Rattle.referee.specs.Moves.{moves_of}
-use Rattle.referee.proofs.Whole.{MadeOf, not_standing, ready_so, made_written}
+use Rattle.referee.proofs.Whole.{MadeOf, not_standing, ready_so}
 use Rattle.referee.proofs.record.ready.Goals as goal
 
 pub returns-in_err-stands : goal.returns-in_err-stands
@@ -16,5 +16,4 @@ returns c =
     let i = c.in_ok-position.ensures in
     let s = c.in_ok-stands.ensures in
     let m : MadeOf c.in_ok-position.position c.args.size c.args.board.now = record { fine = i.0; sized = i.1; same = i.2 } in
-    let k = c.new-2.ensures.kept c.args.size.width c.args.size.height (moves_of c.args.moves.now) (made_written m c.cells.ensures) in
-    (ready_so c.args.moves.now c.new-2.result m (omega arith) (omega arith) s.0 s.1 (c.new-2.ensures.cells ∙ c.cells.ensures) k, omega arith, k)
+    ready_so c.args.moves.now c.new-2.result m (omega arith) (omega arith) s.0 s.1 c.new-2.ensures.position (c.new-2.ensures.kept (moves_of c.args.moves.now))

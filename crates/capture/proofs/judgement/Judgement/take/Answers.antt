@@ -18,5 +18,5 @@ write_row-requires c =
       stands = breathe_stands size judgement.position.cells judgement.stands judgement.colour;
       stone = stone;
       unheld = unmarked_unheld size.width size.height board (λ p. get_or marked p false) c.args.point
-          (carried_judges size.width size.height board marked judgement.sound judgement.complete) stone c.requires.unmarked;
+          (carried_judges size.width size.height board (λ p. get_or marked p false) judgement.right) stone c.requires.unmarked;
     }

@@ -1,43 +1,21 @@
-use Rattle.std.proofs.Common.{◌≡◌, ℕ, ◌<◌, ◌≤◌, true, List, length, get_or, sym, refl, subst, arith, rules}
-use Rattle.grid.specs.Neighbours.{slots, hand}
+use Rattle.std.proofs.Common.{◌≡◌, ℕ, ◌<◌, true, get_or, sym, refl, subst, arith}
+use Rattle.grid.specs.Neighbours.{neighbours_of}
 use Rattle.grid.specs.declared.size.Size.{Size}
-use Rattle.grid.proofs.Square.{graph, hands}
+use Rattle.grid.proofs.Square.{graph}
+use Rattle.grid.proofs.Handed.{beside_it, all_listed}
 use Rattle.chains.specs.Board.{mine}
-use Rattle.chains.specs.Labels.{ChainLabels}
-use Rattle.chains.specs.declared.colour.Colour.{Colour}
 use Rattle.chains.specs.Sized.{count_of, near_of, seen}
 use Rattle.chains.proofs.States.{none_mine}
 use Rattle.chains.proofs.Views.{view_byte}
-use Rattle.rooms.specs.Numbered.{RoomLabels}
 use Rattle.rooms.specs.Tables.{Paired, touches, vital_bit, wall_bit, set_of, own_first}
 use Rattle.rooms.proofs.Labels.{Setting, paired, vital_rooms, wall_rooms, touch_none, first_none, chain_first}
 use Rattle.rooms.proofs.Passes.{Rewritten, rewritten_own, rewritten_rest}
 use Rattle.rooms.proofs.region_sets.Regions.write_sets.Goals as goal
 
-labels_paired : (made size : Size) (cells chains rooms : List ℕ) (colour : Colour) → made ≡ size → ChainLabels (count_of size) (near_of size) (seen size cells colour) chains →
-    RoomLabels (count_of size) (near_of size) (seen size cells colour) rooms → count_of size ≤ length chains → count_of size ≤ length rooms → Paired (count_of made) chains rooms
-labels_paired made size cells chains rooms colour e chain_labels room_labels chains_long rooms_long =
-    subst (λ (s : Size). Paired (count_of s) chains rooms) (sym e) (paired (graph size.width size.height) size.few.1 chain_labels room_labels chains_long rooms_long)
-
-pub clear_chains-requires : goal.clear_chains-requires
-clear_chains-requires c = record {
-  paired = labels_paired c.size-size.result c.args.position.now.size c.args.position.now.cells c.write_chains.new.chains c.write_rooms.new.rooms c.args.colour
-      c.size-size.ensures (c.write_chains.ensures.chained c.args.colour) c.write_rooms.ensures.roomed (omega arith) (omega arith);
-  long = search rules;
-}
-
-pub write_vital-requires : goal.write_vital-requires
-write_vital-requires c = record {
-  paired = labels_paired c.size-size.result c.args.position.now.size c.args.position.now.cells c.write_chains.new.chains c.write_rooms.new.rooms c.args.colour
-      c.size-size.ensures (c.write_chains.ensures.chained c.args.colour) c.write_rooms.ensures.roomed (omega arith) (omega arith);
-  long = search rules;
-}
-
-pub write_walls-requires : goal.write_walls-requires
-write_walls-requires c = record {
-  paired = labels_paired c.size-size.result c.args.position.now.size c.args.position.now.cells c.write_chains.new.chains c.write_rooms.new.rooms c.args.colour
-      c.size-size.ensures (c.write_chains.ensures.chained c.args.colour) c.write_rooms.ensures.roomed (omega arith) (omega arith);
-  long = search rules;
+pub invariant_of-parted : goal.invariant_of-parted
+invariant_of-parted c = record {
+  paired = subst (λ (s : Size). Paired (count_of s) c.write_chains.new.chains c.write_rooms.new.rooms) (sym c.size.ensures)
+      (paired (graph c.args.position.now.size.width c.args.position.now.size.height) c.args.position.now.size.few.1 (c.write_chains.ensures.chained c.args.colour) c.write_rooms.ensures.roomed (omega arith) (omega arith));
 }
 
 pub returns : goal.returns
@@ -46,18 +24,19 @@ returns c =
     let cells = c.args.position.now.cells in
     let chains = c.write_chains.new.chains in
     let rooms = c.write_rooms.new.rooms in
-    let setting : Setting (count_of size) (near_of size) (seen size cells c.args.colour) (slots size.width size.height) (hand size.width size.height) chains rooms = record {
+    let setting : Setting (count_of size) (near_of size) (seen size cells c.args.colour) (neighbours_of size.width size.height) chains rooms = record {
       graph = graph size.width size.height;
-      hands = hands size.width size.height;
+      sound = λ p q listed. (beside_it size.width size.height p q listed).0;
+      complete = all_listed size.width size.height;
       small = size.few.1;
       chain_labels = c.write_chains.ensures.chained c.args.colour;
       room_labels = c.write_rooms.ensures.roomed;
     } in
     let vital : Rewritten (touches size chains rooms) chains rooms (count_of size) (vital_bit (touches size chains rooms) chains rooms (count_of size)) c.args.self.now.vital c.write_vital.new.sets =
-    subst (λ (s : Size). Rewritten (touches s chains rooms) chains rooms (count_of s) (vital_bit (touches s chains rooms) chains rooms (count_of s)) c.args.self.now.vital c.write_vital.new.sets) c.size-size.ensures
+    subst (λ (s : Size). Rewritten (touches s chains rooms) chains rooms (count_of s) (vital_bit (touches s chains rooms) chains rooms (count_of s)) c.args.self.now.vital c.write_vital.new.sets) c.size.ensures
     (record { cleared = c.clear_chains.new.vital; clear = c.clear_chains.ensures.vital; bits = c.write_vital.ensures.bits; rest = c.write_vital.ensures.rest }) in
     let walls : Rewritten (touches size chains rooms) chains rooms (count_of size) (wall_bit (touches size chains rooms) rooms (count_of size)) c.args.self.now.walls c.write_walls.new.sets =
-    subst (λ (s : Size). Rewritten (touches s chains rooms) chains rooms (count_of s) (wall_bit (touches s chains rooms) rooms (count_of s)) c.args.self.now.walls c.write_walls.new.sets) c.size-size.ensures
+    subst (λ (s : Size). Rewritten (touches s chains rooms) chains rooms (count_of s) (wall_bit (touches s chains rooms) rooms (count_of s)) c.args.self.now.walls c.write_walls.new.sets) c.size.ensures
     (record { cleared = c.clear_chains.new.walls; clear = c.clear_chains.ensures.walls; bits = c.write_walls.ensures.bits; rest = c.write_walls.ensures.rest }) in
     let first : (p : ℕ) → seen size cells c.args.colour p ≡ mine → (get_or chains p 0 < count_of size) × (own_first chains rooms (get_or chains p 0) ≡ true) =
     λ p own. chain_first setting p (view_byte (count_of size) cells c.args.colour mine p (λ z. none_mine z refl) own).0 own in
