@@ -1,6 +1,7 @@
 -- The facts that a judgement carries, and what they say.
-use Rattle.std.proofs.Common.{◌≡◌, ℕ, true, List, None, refl}
+use Rattle.std.proofs.Common.{◌≡◌, ℕ, true, List, None, refl, arith}
 use Rattle.std.proofs.Math.Logic.{∥∥₁_elim}
+use Rattle.std.proofs.lemmas.Bool.Decides.{nat_tests}
 use Rattle.grid.specs.declared.size.Size.{Size}
 use Rattle.grid.proofs.Square.{graph}
 use Rattle.chains.specs.Board.{Board}
@@ -14,8 +15,13 @@ use Rattle.chains.proofs.Square.{stand_stands}
 use Rattle.chains.proofs.Views.{view_byte}
 use Rattle.rooms.specs.Safe.{Marks}
 use Rattle.judge.specs.Promise.{Judges}
+use Rattle.judge.specs.Refused.{judge_refusal}
 use Rattle.judge.proofs.Surveyed.{judges_prop}
 use Rattle.capture.specs.Judged.{all_breathe}
+
+-- a position that is judged can stand
+pub judged_breathe : (size : Size) (cells chains rooms : List ℕ) → judge_refusal size cells chains rooms ≡ None → all_breathe size cells ≡ true
+judged_breathe size cells chains rooms e = grind (arith, nat_tests)
 
 -- a board on which every stone breathes can stand, as either side sees it
 pub breathe_stands : (size : Size) (cells : List ℕ) → all_breathe size cells ≡ true → (side : Colour) → Stands size.width size.height (seen size cells side)

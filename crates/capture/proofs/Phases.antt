@@ -1,5 +1,5 @@
 -- The moves by which a chain is taken, one after the other.
-use Rattle.std.proofs.Common.{◌≡◌, ℕ, ◌+◌, ◌<◌, ◌≤◌, true, false, List, length, get_or, set, None, sym, refl, subst, inl, inr, arith}
+use Rattle.std.proofs.Common.{◌≡◌, ℕ, ◌+◌, ◌<◌, ◌≤◌, Bool, true, false, List, length, get_or, set, None, sym, refl, subst, inl, inr, arith}
 use Rattle.std.proofs.lemmas.Bool.{both_ways, cases_lt}
 use Rattle.std.proofs.lemmas.List.{get_or_past}
 use Rattle.grid.specs.Graph.{Graph}
@@ -19,7 +19,7 @@ use Rattle.play.proofs.Refusing.{position_read, not_refused_stone}
 use Rattle.rooms.specs.Regions.{Liberty}
 use Rattle.judge.proofs.Frame.{step_frame}
 use Rattle.judge.proofs.Taking.{step_falls}
-use Rattle.capture.specs.Row.{board_of, SoFar, InPhase, Nearer}
+use Rattle.capture.specs.Row.{board_of, SoFar, Phase, InPhase, Nearer, Captured}
 use Rattle.capture.specs.Target.{NextLiberty, OpenTouch}
 use Rattle.capture.specs.declared.capturing.Row.{Row}
 use Rattle.capture.specs.declared.target.Target.{Target}
@@ -102,3 +102,13 @@ pub phase_breath : (row : Row) {b : Board} (t : Target) → InPhase b t row → 
     ((z : ℕ) → z < count_of row.position.size → OpenTouch (near_of row.position.size) row.position.cells t.chains t.chain z → ⊥) → ⊥
 phase_breath row t phase breath none_free =
     breath_touch (graph row.position.size.width row.position.size.height) phase.aimed row.position.cells row.colour phase.frame breath none_free
+
+-- the chain stands or is taken
+pub phase_end : {n : ℕ} {near : ℕ → ℕ → Bool} {b : Board} {t : Target} {d : Board} → Phase n near b t d → (d t.chain ≡ mine → ⊥) → Captured n near b t.chain d
+phase_end {t = t} phase gone =
+    record {
+      below = phase.aimed.below;
+      was = phase.aimed.stone;
+      frame = phase.frame;
+      gone = elim (phase.frame.mine_go t.chain phase.aimed.stone) [ inl m ↦ absurd (gone m) | inr z ↦ z ];
+    }

@@ -9,6 +9,7 @@ use Rattle.grid.specs.declared.neighbours.Neighbours.{Neighbours}
 use Rattle.grid.specs.Ahead.{ahead}
 use Rattle.grid.specs.Grid.{points, near}
 use Rattle.grid.specs.Neighbours.{slots, hand, handed, neighbours_of}
+use Rattle.grid.specs.Statements.{Lists}
 use Rattle.grid.proofs.Square.{graph, hands}
 
 -- a number without a neighbour gives nothing
@@ -151,6 +152,57 @@ pub all_listed : (w h p q : ℕ) → near w h p q ≡ true → Contains (neighbo
 all_listed w h p q t =
     let f = (hands w h).complete p q t in
     found (hand w h p) 0 (slots w h p) f.0 q f.1 (subst (λ (j : ℕ). hand w h p j ≡ Some q) (sym (zero-add f.0)) f.2)
+
+-- the first item is that of the first number, the others are those of the later ones
+first_item : (f : ℕ → Option ℕ) (k n i q : ℕ) → ((m : ℕ) → m < length (handed f (k + 1) n) → (j : ℕ) × (k + 1 ≤ j) × (f j ≡ Some (get_or (handed f (k + 1) n) m 0))) →
+    f k ≡ Some q → i < length (q ∷ handed f (k + 1) n) → (j : ℕ) × (k ≤ j) × (f j ≡ Some (get_or (handed f k (suc n)) i 0))
+first_item f k n zero q next e l = (k, omega arith, e ∙ ap (λ (xs : List ℕ). Some (get_or xs 0 0)) (sym (gives_at f k n q e)))
+first_item f k n (suc i) q next e l =
+    let r = next i (omega (arith, l)) in
+    (r.0, omega (arith, r.1), r.2 ∙ ap (λ (xs : List ℕ). Some (get_or xs (suc i) 0)) (sym (gives_at f k n q e)))
+
+-- each item of the list is handed out for a number that is not below the first
+numbered_item : (f : ℕ → Option ℕ) (k n i : ℕ) → i < length (handed f k n) → (j : ℕ) × (k ≤ j) × (f j ≡ Some (get_or (handed f k n) i 0))
+numbered_item f k zero i l = absurd (omega (arith, subst (λ (xs : List ℕ). i < length xs) (none_at f k) l))
+numbered_item f k (suc n) i l = go (numbered_item f (k + 1) n) (f k) refl
+  where
+    go : ((m : ℕ) → m < length (handed f (k + 1) n) → (j : ℕ) × (k + 1 ≤ j) × (f j ≡ Some (get_or (handed f (k + 1) n) m 0))) → (o : Option ℕ) → f k ≡ o →
+        (j : ℕ) × (k ≤ j) × (f j ≡ Some (get_or (handed f k (suc n)) i 0))
+    go next None e =
+        let r = next i (subst (λ (xs : List ℕ). i < length xs) (skips_at f k n e) l) in
+        (r.0, omega (arith, r.1), r.2 ∙ ap (λ (xs : List ℕ). Some (get_or xs i 0)) (sym (skips_at f k n e)))
+    go next (Some q) e = first_item f k n i q next e (subst (λ (xs : List ℕ). i < length xs) (gives_at f k n q e) l)
+
+-- the first item is less than the others, if those are in order
+after_first : (f : ℕ → Option ℕ) → ((j k q r : ℕ) → j < k → f j ≡ Some q → f k ≡ Some r → q < r) → (k n q : ℕ) → f k ≡ Some q →
+    ((a b : ℕ) → a < b → b < length (handed f (k + 1) n) → get_or (handed f (k + 1) n) a 0 < get_or (handed f (k + 1) n) b 0) →
+    (i j : ℕ) → i < j → j < length (q ∷ handed f (k + 1) n) → get_or (q ∷ handed f (k + 1) n) i 0 < get_or (q ∷ handed f (k + 1) n) j 0
+after_first f o k n q e rest i zero l m = absurd (omega arith)
+after_first f o k n q e rest zero (suc j) l m =
+    let r = numbered_item f (k + 1) n j (omega (arith, m)) in
+    o k r.0 q (get_or (handed f (k + 1) n) j 0) (omega (arith, r.1)) e r.2
+after_first f o k n q e rest (suc i) (suc j) l m = rest i j (omega arith) (omega (arith, m))
+
+-- so where a greater number has a greater neighbour, the list is in order
+in_order : (f : ℕ → Option ℕ) → ((j k q r : ℕ) → j < k → f j ≡ Some q → f k ≡ Some r → q < r) → (k n i j : ℕ) → i < j → j < length (handed f k n) →
+    get_or (handed f k n) i 0 < get_or (handed f k n) j 0
+in_order f o k zero i j l m = absurd (omega (arith, subst (λ (xs : List ℕ). j < length xs) (none_at f k) m))
+in_order f o k (suc n) i j l m = go (λ a b. in_order f o (k + 1) n a b) (f k) refl
+  where
+    Less : List ℕ → Type 0
+    Less xs = get_or xs i 0 < get_or xs j 0
+
+    go : ((a b : ℕ) → a < b → b < length (handed f (k + 1) n) → get_or (handed f (k + 1) n) a 0 < get_or (handed f (k + 1) n) b 0) → (x : Option ℕ) → f k ≡ x → Less (handed f k (suc n))
+    go rest None e = subst Less (sym (skips_at f k n e)) (rest i j l (subst (λ (xs : List ℕ). j < length xs) (skips_at f k n e) m))
+    go rest (Some q) e = subst Less (sym (gives_at f k n q e)) (after_first f o k n q e rest i j l (subst (λ (xs : List ℕ). j < length xs) (gives_at f k n q e) m))
+
+-- the list of the neighbours of p is exact
+pub lists : (w h p : ℕ) → Lists (near w h) p (neighbours_of w h p)
+lists w h p = record {
+  sound = λ q c. (beside_it w h p q c).0;
+  complete = λ q t. all_listed w h p q t;
+  ordered = λ i j l m. in_order (hand w h p) ((hands w h).ordered p) 0 (slots w h p) i j l m;
+}
 
 -- a loop over the neighbours of p: each item is one, and at the end every neighbour was one
 pub neighbours_turn :

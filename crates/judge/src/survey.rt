@@ -45,7 +45,12 @@ impl Survey<'_> {
         ensures { (p : ℕ) → slice_index_or result p false ≡ kept_by (seen self.now.position.now.size self.now.position.now.cells self.now.colour)
             self.now.chains.now left.now.words p }
     {
-        std::array::from_fn(|p| self.stays(p, left))
+        // not `from_fn`, which works out all 361 entries on the smallest board too
+        let mut marks = [false; MAX_POINTS];
+        for p in 0..self.position.size().points() {
+            marks[p] = self.stays(p, left);
+        }
+        marks
     }
 
     /// All chains of the colour and all rooms.

@@ -1,6 +1,6 @@
 -- The calls on a position that was made of bytes: what they say of the position they say of the bytes.
 use Rattle.std.proofs.Common.{◌≡◌, ℕ, ◌≤◌, Bool, true, false, cond, not, eqb, ltb, List, ◌++◌, length, get_or, drop, is_some, Some, None, Option, sym, refl, ap, ◌∙◌, inl, inr, arith}
-use Rattle.grid.specs.Refusals.{unless}
+use Rattle.grid.specs.Refusals.{listed, unless}
 use Rattle.grid.specs.declared.refusal.Refusal.{Refusal}
 use Rattle.grid.specs.declared.size.Size.{Size}
 use Rattle.chains.specs.Board.{pick, none, mine, yours, Board}
@@ -86,6 +86,11 @@ unshown_carried {position = position} r point moves e v (inr marked) =
     by_mark (show_carried r point moves v ∙ marked.no_line) marked.marked.is
     (carry_read (λ (w h : ℕ) (s : Colour → Board). StaysSo w h s point) r
     (record { colour = marked.colour; stone = standing_mine (count_of position.size) position.cells point marked.colour marked.there; stays = marked.marked.stays }))
+
+-- the same refusal where the lines are the same
+pub refused_as : {lines others : Option (ℕ × ℕ)} {stays : Type 0} {e why : Refusal} → RefusedBy lines stays e → others ≡ lines → why ≡ e → RefusedBy others stays why
+refused_as (by_line at) is same = by_line (is ∙ (at ∙ ap (λ (r : Refusal). Some (listed r)) (sym same)))
+refused_as (by_mark at marked stays) is same = by_mark (is ∙ at) (same ∙ marked) stays
 
 -- what turns the position's marks away turns those of the bytes away
 pub audit_carried : {bytes cells : List ℕ} {lent chains rooms : ℕ} {size : Size} {position : Position} → ReadFrom bytes lent chains rooms size cells position → (number : ℕ) (marks : List ℕ) (moves : ℕ) → count_of size ≤ moves →

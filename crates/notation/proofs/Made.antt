@@ -1,5 +1,5 @@
 -- A position that was made of bytes of that size and points: what holds of the one holds of the other.
-use Rattle.std.proofs.Common.{◌≡◌, ℕ, ◌-◌, ◌≤◌, leb, List, ◌++◌, length, take, drop, None, Option, sym, refl, ap, ◌∙◌, subst, ap₂, arith, length-drop}
+use Rattle.std.proofs.Common.{◌≡◌, ℕ, ◌-◌, ◌≤◌, false, eqb, leb, List, ◌++◌, length, take, drop, Some, None, Option, sym, refl, ap, ◌∙◌, subst, ap₂, arith, length-drop}
 use mathlib.Core.Path.{fun_ext}
 use Rattle.std.proofs.lemmas.List.{take_all}
 use Rattle.std.proofs.lemmas.Bool.{eq-eqb, le-leb}
@@ -102,3 +102,8 @@ call_left {chains = chains} {rooms} {size} {position} r moves v rest =
 pub placed : {bytes cells : List ℕ} {lent chains rooms : ℕ} {size : Size} {position : Position} → ReadFrom bytes lent chains rooms size cells position → (before after : List ℕ) →
     after ≡ cells ++ drop (length cells) before → after ≡ cells_of bytes ++ drop (size_points bytes) before
 placed r before after e = e ∙ ap₂ (λ (cs : List ℕ) (n : ℕ). cs ++ drop n before) r.cells_are (r.made.all ∙ read_count r)
+
+-- another count of points is refused
+pub uncut : (size : Size) (bytes : List ℕ) (count : ℕ) → size.width ≡ width_of bytes → size.height ≡ height_of bytes → count ≡ count_of size → eqb (length bytes - 2) count ≡ false →
+    (rest : Option (ℕ × ℕ)) → points_lines bytes rest ≡ Some (2, length bytes - 2)
+uncut size bytes count w h n e rest = rw (subst (λ (k : ℕ). eqb (length bytes - 2) k ≡ false) (n ∙ ap₂ points w h) e) refl

@@ -1,8 +1,8 @@
 -- Counting the stones that were taken.
 use Rattle.std.proofs.Common.{◌≡◌, ℕ, zero, suc, ◌+◌, ◌<◌, ◌≤◌, Bool, true, false, ◌&&◌, eqb, ◌⊎◌, List, length, get_or, take, sym, refl, ap, ◌∙◌, subst, inl, inr, add-one, arith}
 use Rattle.std.specs.List.{count_by, zip}
-use Rattle.std.proofs.lemmas.Bool.{both_ways, cases_Bool, cases_lt, eqb-true, eq-eqb, lt-ltb}
-use Rattle.std.proofs.lemmas.List.{take_all}
+use Rattle.std.proofs.lemmas.Bool.{both_ways, cases_Bool, eqb-true, eq-eqb, lt-ltb}
+use Rattle.std.proofs.lemmas.List.{take_all, get_or-take, length-take-le}
 use Rattle.std.proofs.lemmas.List.Sums.{count_by_more_yes, count_by_more_no}
 use Rattle.std.proofs.lemmas.Slice.Zip.{length-zip, get_or-zip}
 use Rattle.grid.specs.declared.size.Size.{Size}
@@ -11,7 +11,6 @@ use Rattle.chains.specs.Computed.{is_state, one_if, count}
 use Rattle.chains.specs.Sized.{count_of}
 use Rattle.chains.specs.Views.{stone_byte, other, is_point, view}
 use Rattle.chains.specs.declared.colour.Colour.{Colour}
-use Rattle.chains.specs.declared.colour.Colour.TheVariants.{Black, White}
 use Rattle.chains.specs.declared.position.Position.{Position}
 use Rattle.chains.proofs.States.{is_state_true, state_is}
 use Rattle.chains.proofs.Views.{empty_byte, byte_none, view_none}
@@ -32,15 +31,6 @@ count_same : (t u : ℕ → Bool) (n : ℕ) → ((p : ℕ) → p < n → t p ≡
 unfolding count
 count_same t u zero f = refl
 count_same t u (suc n) f = rw (f n (omega arith)) (ap (λ (k : ℕ). one_if (u n) + k) (count_same t u n (λ p l. f p (omega arith))))
-
--- from n on no point passes
-count_beyond : (t : ℕ → Bool) (n m : ℕ) → n ≤ m → ((p : ℕ) → n ≤ p → p < m → t p ≡ false) → count t m ≡ count t n
-unfolding count
-count_beyond t n zero l f = let e : n ≡ zero = omega arith in rw e refl
-count_beyond t n (suc m) l f = elim (cases_lt m n) [
-  | inl k ↦ let e : n ≡ suc m = omega arith in rw e refl
-  | inr k ↦ rw (f m k (omega arith)) (omega (arith, count_beyond t n m k (λ p a b. f p a (omega arith))))
-]
 
 picked_mine : (x y : Bool) → x ≡ is_state mine (pick x mine (pick y yours none))
 picked_mine true y = refl
@@ -63,28 +53,24 @@ none_test n bytes c p l g = join (cases_Bool (is_state none (view n bytes c p)))
       | inr f ↦ f ∙ sym e
     ]
 
-empty_no_stone : (c : Colour) → eqb 46 (stone_byte c) ≡ false
-empty_no_stone Black = refl
-empty_no_stone White = refl
-
 -- the bytes of stones of that colour that became those of empty points are its stones that left the board
-pub counted : (before after : Position) (colour : Colour) → after.size ≡ before.size → length before.cells ≡ 361 → length after.cells ≡ 361 →
-    count_by (λ (p : ℕ × ℕ). byte_taken (stone_byte colour) p.0 p.1) (zip before.cells after.cells)
+pub counted : (before after : Position) (colour : Colour) {k : ℕ} → k ≡ count_of before.size → after.size ≡ before.size → length before.cells ≡ 361 → length after.cells ≡ 361 →
+    count_by (λ (p : ℕ × ℕ). byte_taken (stone_byte colour) p.0 p.1) (zip (take k before.cells) (take k after.cells))
     ≡ count (λ p. is_taken (view (count_of before.size) before.cells colour p) (view (count_of before.size) after.cells colour p)) (count_of before.size)
-counted before after colour s l m =
-    ap (count_by pair_taken) (sym (take_all 361 pairs (omega (arith, long))))
-    ∙ count_front pair_taken (0, 0) pairs 361 (omega (arith, long))
-    ∙ count_same (λ q. pair_taken (get_or pairs q (0, 0))) at_point 361 (λ q k. ap pair_taken (get_or-zip before.cells after.cells q (0, 0) (omega arith) (omega arith)))
-    ∙ count_beyond at_point n 361 before.size.few.1 (λ q k o. rw (before.past q k o, empty_no_stone colour) refl)
+counted before after colour {k} e s l m =
+    ap (λ (i : ℕ). count_by pair_taken (zip (take i before.cells) (take i after.cells))) e
+    ∙ ap (count_by pair_taken) (sym (take_all n pairs (omega (arith, long))))
+    ∙ count_front pair_taken (0, 0) pairs n (omega (arith, long))
+    ∙ count_same (λ q. pair_taken (get_or pairs q (0, 0))) at_point n (λ q o. ap pair_taken (pair q o))
     ∙ count_same at_point (λ p. is_taken (view n before.cells colour p) (view n after.cells colour p)) n
-    (λ p k. ap (λ (x : Bool). x && eqb (get_or after.cells p 0) 46) (mine_test n before.cells colour p k)
-    ∙ ap (λ (x : Bool). is_state mine (view n before.cells colour p) && x) (none_test n after.cells colour p k (good p k)))
+    (λ p o. ap (λ (x : Bool). x && eqb (get_or after.cells p 0) 46) (mine_test n before.cells colour p o)
+    ∙ ap (λ (x : Bool). is_state mine (view n before.cells colour p) && x) (none_test n after.cells colour p o (good p o)))
   where
     n : ℕ
     n = count_of before.size
 
     pairs : List (ℕ × ℕ)
-    pairs = zip before.cells after.cells
+    pairs = zip (take n before.cells) (take n after.cells)
 
     pair_taken : ℕ × ℕ → Bool
     pair_taken p = byte_taken (stone_byte colour) p.0 p.1
@@ -92,8 +78,15 @@ counted before after colour s l m =
     at_point : ℕ → Bool
     at_point q = byte_taken (stone_byte colour) (get_or before.cells q 0) (get_or after.cells q 0)
 
-    long : length pairs ≡ 361
-    long = length-zip before.cells after.cells ∙ rw (l, m) refl
+    front : (xs : List ℕ) → length xs ≡ 361 → length (take n xs) ≡ n
+    front xs o = length-take-le n xs (omega (arith, o, before.size.few.1))
+
+    long : length pairs ≡ n
+    long = length-zip (take n before.cells) (take n after.cells) ∙ rw (front before.cells l, front after.cells m) (omega arith)
+
+    pair : (q : ℕ) → q < n → get_or pairs q (0, 0) ≡ (get_or before.cells q 0, get_or after.cells q 0)
+    pair q o = get_or-zip (take n before.cells) (take n after.cells) q (0, 0) (omega (arith, front before.cells l)) (omega (arith, front after.cells m))
+        ∙ rw (get_or-take n before.cells q 0 o, get_or-take n after.cells q 0 o) refl
 
     good : (p : ℕ) → p < n → is_point (get_or after.cells p 0) ≡ true
     good = subst (λ (z : Size). (p : ℕ) → p < count_of z → is_point (get_or after.cells p 0) ≡ true) s after.board

@@ -4,6 +4,7 @@ use mathlib.Core.Path.{fun_ext}
 use Rattle.std.proofs.lemmas.List.{get_or-set_same, get_or-set_other}
 use Rattle.std.proofs.lemmas.Bool.{cases_Bool, cases_eq, cases_lt, eq-eqb, lt-ltb, le-ltb}
 use Rattle.grid.specs.Graph.{Near}
+use Rattle.grid.specs.Grid.{points, near}
 use Rattle.grid.specs.declared.size.Size.{Size}
 use Rattle.grid.proofs.Square.{graph}
 use Rattle.chains.specs.Board.{pick, State, none, mine, yours, Board}
@@ -16,9 +17,12 @@ use Rattle.chains.specs.declared.colour.Colour.{Colour}
 use Rattle.chains.specs.declared.colour.Colour.TheVariants.{Black, White}
 use Rattle.chains.specs.declared.position.Position.{Position}
 use Rattle.chains.proofs.Breath.{breathes_at_is}
+use Rattle.chains.proofs.Chain.{joined_first, breathing_breathes}
 use Rattle.chains.proofs.States.{none_yours}
+use Rattle.chains.proofs.Views.{view_byte}
 use Rattle.play.specs.After.{left_on, after}
 use Rattle.play.specs.Played.{with_stone}
+use Rattle.play.specs.Stone.{faced}
 use Rattle.play.proofs.Moves.{put_other, after_made}
 
 -- a point with one byte on both boards has one state
@@ -119,3 +123,16 @@ stone_breath {before} {left} {colour} {point} {answer} m e w =
     on_made : BreathesAt (near_of before.size) (after (count_of before.size) (near_of before.size) (seen before.size before.cells (other colour)) point) point answer
     on_made = subst (λ (b : Board). BreathesAt (near_of before.size) b point answer) m.board
         (subst (λ (z : Size). BreathesAt (near_of z) (seen z left.cells (other colour)) point answer) m.sized (w (other colour)))
+
+-- where no stone of that side stands none breathes
+pub other_breathes : (w h : ℕ) (cells : List ℕ) (colour : Colour) (point : ℕ) → point < points w h → (get_or cells point 0 ≡ stone_byte colour → ⊥) →
+    false ≡ breathing (points w h) (near w h) (faced w h cells colour) yours point
+other_breathes w h cells colour point l o = elim (cases_Bool (breathing (points w h) (near w h) (faced w h cells colour) yours point)) [
+  | inl e ↦ absurd (o ((view_byte (points w h) cells (other colour) yours point (λ z. none_yours z refl)
+      (joined_first (breathing_breathes (graph w h) (faced w h cells colour) yours point e).chain)).1 ∙ other_twice colour))
+  | inr e ↦ sym e
+]
+  where
+    other_twice : (c : Colour) → stone_byte (other (other c)) ≡ stone_byte c
+    other_twice Black = refl
+    other_twice White = refl

@@ -1,5 +1,5 @@
 -- The position that is left after a stone: byte for byte, and standing if the position before stood.
-use Rattle.std.proofs.Common.{◌≡◌, ℕ, ◌+◌, ◌<◌, ◌≤◌, Bool, true, false, ◌⊎◌, List, length, get_or, drop, sym, refl, ap, ◌∙◌, subst, inl, inr, arith, length-drop}
+use Rattle.std.proofs.Common.{◌≡◌, ℕ, ◌+◌, ◌<◌, ◌≤◌, Bool, true, false, ◌⊎◌, List, length, get_or, take, drop, sym, refl, ap, ◌∙◌, subst, inl, inr, arith, length-drop}
 use Rattle.std.specs.List.{count_by, zip}
 use Rattle.std.specs.Option.{is_some}
 use Rattle.std.proofs.lemmas.List.{ext_get_or, get_or-drop}
@@ -116,17 +116,17 @@ stone_looked before placed left colour gone {point} long l e g s p t w b = recor
     stone = stone_made placed gone l (omega (arith, before.size.few.1)) g s p t w
 
 -- the stone is played
-pub stone_played : {before left : Position} {colour : Colour} {point turn taken : ℕ} → length before.cells ≡ 361 → length left.cells ≡ 361 → StoneLooked before colour point left true →
-    taken ≡ count_by (λ (p : ℕ × ℕ). byte_taken (stone_byte (other colour)) p.0 p.1) (zip before.cells left.cells) →
+pub stone_played : {before left : Position} {colour : Colour} {point turn taken k : ℕ} → length before.cells ≡ 361 → length left.cells ≡ 361 → StoneLooked before colour point left true →
+    k ≡ count_of before.size → taken ≡ count_by (λ (p : ℕ × ℕ). byte_taken (stone_byte (other colour)) p.0 p.1) (zip (take k before.cells) (take k left.cells)) →
     StonePlayed before.size.width before.size.height before.cells colour point turn left.cells taken
-stone_played {before} {left} {colour} {point} {turn} long few s number = record {
+stone_played {before} {left} {colour} {point} {turn} long few s all number = record {
   allowed = not_refused_stone colour turn s.read s.free (sym s.breath);
   played = played;
   bytes = λ p l. point_byte (other colour) (get_or left.cells p 0) (good p l)
       ∙ ap (byte_of (other colour)) (sym (view_on_board (count_of before.size) left.cells (other colour) p l) ∙ ap (λ (d : Board). d p) s.made.board);
   written = good;
   past = past_same left before s.made.sized few long;
-  captures = number ∙ counted before left (other colour) s.made.sized long few;
+  captures = number ∙ counted before left (other colour) all s.made.sized long few;
   stands = stands_after w h before.cells left.cells colour played;
 }
   where

@@ -1,4 +1,4 @@
--- What a refusal says of a stone, in the words of the rules.
+-- What a refusal says of a stone, in the words of the rules, and what it says that none applies.
 use Rattle.std.proofs.Common.{◌≡◌, ℕ, ◌<◌, ◌≤◌, Bool, true, false, ltb, ◌≢◌, List, Some, None, Option, sym, refl, ap, ◌∙◌, subst, arith}
 use Rattle.std.proofs.lemmas.Bool.{both_ways, ltb-true, ltb-false}
 use Rattle.grid.specs.Grid.{points, near}
@@ -11,7 +11,7 @@ use Rattle.chains.specs.Views.{points_refusal}
 use Rattle.chains.specs.declared.colour.Colour.{Colour}
 use Rattle.chains.proofs.States.{is_state_true, state_is}
 use Rattle.play.specs.Played.{Played}
-use Rattle.play.specs.Stone.{faced, made, StoneRefused}
+use Rattle.play.specs.Stone.{faced, made, stone_refusal, StoneRefused}
 use Rattle.play.proofs.Refusing.{number_in, lines_of}
 
 -- why a stone on a board that is written well is refused
@@ -79,6 +79,12 @@ some_none e = let z : ◌≡◌ {A = ℕ} 0 1 = cc in omega arith
 abbrev lines : Bool → Bool → Bool → ℕ → Option (ℕ × ℕ)
 lines there empty breath turn = unless there (5, turn) (unless empty (6, turn) (unless breath (7, turn) None))
 
+no_line : (there empty breath : Bool) (turn : ℕ) → lines there empty breath turn ≡ None → (there ≡ true) × (empty ≡ true) × (breath ≡ true)
+no_line true true true turn e = (refl, refl, refl)
+no_line true true false turn e = absurd (some_none e)
+no_line true false breath turn e = absurd (some_none e)
+no_line false empty breath turn e = absurd (some_none e)
+
 -- which line applies, by its number
 data Line (there empty breath : Bool) (number : ℕ) : Type 0 where
   line_5 : there ≡ false → number ≡ 5 → Line there empty breath number
@@ -90,6 +96,14 @@ which_line true true true turn e s = absurd (some_none (sym s))
 which_line true true false turn e s = (line_7 refl refl (sym (ap number_in s)), sym (ap place_in s))
 which_line true false breath turn e s = (line_6 refl refl (sym (ap number_in s)), sym (ap place_in s))
 which_line false empty breath turn e s = (line_5 refl (sym (ap number_in s)), sym (ap place_in s))
+
+-- what no refusal says: the point is there and empty, and the new stone breathes
+pub allowed_facts : (w h : ℕ) (bytes : List ℕ) (colour : Colour) (point turn : ℕ) → points_refusal (points w h) bytes ≡ None → stone_refusal w h bytes colour point turn ≡ None →
+    (point < points w h) × (faced w h bytes colour point ≡ none) × (breathing (points w h) (near w h) (made w h bytes colour point) yours point ≡ true)
+allowed_facts w h bytes colour point turn fine e =
+    let f = no_line (ltb point (points w h)) (is_state none (faced w h bytes colour point)) (breathing (points w h) (near w h) (made w h bytes colour point) yours point) turn
+    (sym (lines_of w h bytes colour point turn fine) ∙ e) in
+    (ltb-true point (points w h) f.0, is_state_true none (faced w h bytes colour point) f.1, f.2)
 
 -- what a refusal says of a stone on a board that is written well
 pub reason : {w h : ℕ} {bytes : List ℕ} {colour : Colour} {point turn : ℕ} {e : Refusal} → points_refusal (points w h) bytes ≡ None → StoneRefused w h bytes colour point turn e →

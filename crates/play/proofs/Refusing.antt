@@ -6,7 +6,8 @@ use Rattle.std.proofs.lemmas.List.{get_or-take}
 use Rattle.std.proofs.lemmas.Bool.{both_ways, cases_Bool, leb-true, le-leb, lt-ltb, le-ltb}
 use Rattle.grid.specs.Graph.{Near}
 use Rattle.grid.specs.Grid.{points, near}
-use Rattle.grid.specs.Refusals.{unless}
+use Rattle.grid.specs.Refusals.{listed, number_of, unless}
+use Rattle.grid.specs.declared.refusal.Refusal.{Refusal}
 use Rattle.grid.specs.declared.refusal.Refusal.TheVariants.{OffBoard, Occupied, Suicide}
 use Rattle.grid.specs.declared.size.Size.{Size}
 use Rattle.grid.proofs.Square.{graph}
@@ -22,7 +23,7 @@ use Rattle.chains.proofs.Chain.{breathes_breathing}
 use Rattle.chains.proofs.States.{state_is, state_is_not}
 use Rattle.chains.proofs.Views.{byte_none, stone_view}
 use Rattle.play.specs.Steps.{PointsRead, Free}
-use Rattle.play.specs.Stone.{faced, made, stone_refusal, StoneRefused}
+use Rattle.play.specs.Stone.{faced, made, or_below, stone_refusal, StoneRefused}
 use Rattle.play.specs.After.{after}
 use Rattle.play.proofs.Moves.{played_breathes}
 
@@ -68,6 +69,30 @@ points_fine {w} {h} {bytes} r = rw (le-leb (points w h) (length bytes) r.long, l
 abbrev pub number_in : Option (ℕ × ℕ) → ℕ
 number_in None = 0
 number_in (Some line) = line.0
+
+-- a line on the bytes is not the seventh
+points_number : (n : ℕ) (bytes : List ℕ) (e : Refusal) → Some (listed e) ≡ points_refusal n bytes → number_of e ≡ 7 → ⊥
+points_number n bytes e s k =
+    let m : number_of e ≡ number_in (points_refusal n bytes) = ap number_in s in
+    elim (cases_Bool (leb n (length bytes))) [
+      | inr f ↦ (let z : number_of e ≡ 12 = rw f at m in omega arith)
+      | inl f ↦ elim (cases_Bool (leb n (prefix_len is_point (take n bytes)))) [
+        | inr l ↦ (let z : number_of e ≡ 3 = rw (f, l) at m in omega arith)
+        | inl l ↦ (let z : number_of e ≡ 0 = rw (f, l) at m in omega arith)
+      ]
+    ]
+
+-- bytes that are refused refuse every stone
+pub read_refused : (w h : ℕ) (bytes : List ℕ) (e : Refusal) → Some (listed e) ≡ points_refusal (points w h) bytes → (colour : Colour) (point turn : ℕ) → StoneRefused w h bytes colour point turn e
+read_refused w h bytes e s colour point turn = record {
+  line = subst (λ (o : Option (ℕ × ℕ)). or_below o rest ≡ Some (listed e)) s refl;
+  no_board = λ k. absurd (points_number (points w h) bytes e s k);
+}
+  where
+    rest : Option (ℕ × ℕ)
+    rest = unless (ltb point (points w h)) (5, turn)
+        (unless (is_state none (faced w h bytes colour point)) (6, turn)
+        (unless (breathing (points w h) (near w h) (made w h bytes colour point) yours point) (7, turn) None))
 
 -- the lines on the stone, by the board that the side sees that does not move
 abbrev pub stone_lines : ℕ → Near → Board → ℕ → ℕ → Option (ℕ × ℕ)

@@ -7,7 +7,6 @@ ghost use Rattle.play.specs.Steps.{byte_taken};
 ghost use Rattle.play.specs.Stone.{StoneRefused, StonePlayed};
 
 use chains::colour::{Colour, EMPTY_BYTE};
-use chains::labels::MAX_POINTS;
 use chains::position::Position;
 use grid::refusal::Refusal;
 use grid::size::Size;
@@ -63,7 +62,12 @@ pub fn after_stone(
     if !after.breathes(point) {
         return Err(Refusal::Suicide(turn));
     }
-    let taken = count_taken(&position.cells(), &after.cells(), colour.other());
+    let count = position.size().points();
+    let taken = count_taken(
+        &position.cells()[0..count],
+        &after.cells()[0..count],
+        colour.other(),
+    );
     Ok(Played {
         position: after,
         taken,
@@ -71,7 +75,7 @@ pub fn after_stone(
 }
 
 /// How many stones of that colour stood on points that are empty now.
-fn count_taken(before: &[u8; MAX_POINTS], after: &[u8; MAX_POINTS], colour: Colour) -> usize
+fn count_taken(before: &[u8], after: &[u8], colour: Colour) -> usize
     ensures { result ≡ count_by (λ (p : ℕ × ℕ). byte_taken (stone_byte colour) p.0 p.1) (zip before.now after.now) }
 {
     let gone = colour.byte();

@@ -5,7 +5,7 @@ use lib.Bits.{bit_and, bit_or}
 use lib.ListN.{length-replicate}
 use lib.Count.{ones, ones_step, ones-le}
 use Rattle.std.proofs.lemmas.List.{get_or-set_same, get_or-set_other, get_or_past, get_or-replicate}
-use Rattle.std.proofs.lemmas.Nat.Bits.{bit_at_lowest, bit_at-suc, bit_at-zero, bit_at_and, bit_at_not, bit_at_set_same, bit_at_set_other, bit_at_clear_same, bit_at_clear_other, bit_at-lt, shr_and_one}
+use Rattle.std.proofs.lemmas.Nat.Bits.{bit_at_lowest, bit_at-suc, bit_at-zero, bit_at_and, bit_at_not, bit_at_set_same, bit_at_set_other, bit_at_clear_same, bit_at_clear_other, bit_at-lt, same_from_bits_below, shr_and_one}
 use Rattle.chains.specs.Computed.{count}
 use Rattle.rooms.specs.Bits.{bit, member}
 use Rattle.rooms.proofs.Counts.{count_same, count_add}
@@ -51,6 +51,11 @@ ones_count (suc k) a h =
     let later : count (bit (a / 2)) k ≡ count (λ i. bit a (1 + i)) k = count_same (bit (a / 2)) (λ i. bit a (1 + i)) k (λ i l. rw (one-add i) (sym (bit_half a i))) in
     let all : count (bit a) (suc k) ≡ count (bit a) 1 + count (λ i. bit a (1 + i)) k = ap (count (bit a)) (sym (one-add k)) ∙ count_add (bit a) 1 k in
     omega (arith, ones_step a, count_first a)
+
+-- a word of k bits of which none is set is zero
+pub bits_zero : (k a : ℕ) → a < 2 ^ k → ((i : ℕ) → i < k → bit a i ≡ false) → a ≡ 0
+unfolding bit
+bits_zero k a h none = same_from_bits_below k a 0 h (omega arith) (λ i l. let e = none i l in grind (arith, bit_at-zero, bit_at-lt))
 
 -- whether a number is in the set is told by the bit of its word
 pub member_word : (words : List ℕ) (i k : ℕ) → i / 64 ≡ k → member words i ≡ bit (get_or words k 0) (i % 64)

@@ -4,8 +4,10 @@ use Rattle.std.proofs.lemmas.Bool.{cases_Bool, ltb-true, both_ways, false≢true
 use Rattle.std.specs.List.{Contains}
 use Rattle.std.proofs.lemmas.List.Folds.{Any-from_list_any, list_any-from_Any}
 use Rattle.grid.specs.Graph.{Near, Graph}
+use Rattle.grid.specs.declared.size.Size.{Size}
 use Rattle.chains.specs.Board.{State, none, mine, yours, Board}
 use Rattle.chains.specs.Labels.{Labelled, ChainLabels}
+use Rattle.chains.specs.Sized.{count_of, near_of, seen}
 use Rattle.chains.specs.Views.{stone_byte, view}
 use Rattle.chains.specs.declared.colour.Colour.{Colour}
 use Rattle.chains.specs.declared.colour.Colour.TheVariants.{Black, White}
@@ -18,8 +20,9 @@ use Rattle.rooms.specs.Bits.{member}
 use Rattle.rooms.specs.Regions.{not_mine, OneRoom, Beside}
 use Rattle.rooms.specs.Striking.{Wall, VitalTo}
 use Rattle.rooms.specs.Numbered.{RoomLabels, IsFirst, VitalRooms, WallRooms}
-use Rattle.rooms.specs.Tables.{Paired, own_chain, is_chain, meets, in_room, wall_bit, empty_in, some_empty, some_away, vital_bit, own_first}
-use Rattle.rooms.specs.Regioned.{own_byte}
+use Rattle.rooms.specs.Tables.{set_of, Paired, own_chain, is_chain, meets, in_room, wall_bit, empty_in, some_empty, some_away, vital_bit, own_first}
+use Rattle.rooms.specs.Regioned.{own_byte, Regioned}
+use Rattle.rooms.specs.declared.region_sets.Regions.{Regions}
 use Rattle.rooms.proofs.Numbered.{labelled_rooms}
 use Rattle.rooms.proofs.Regions.{linked_below}
 use Rattle.rooms.proofs.Rounds.{mine_or_not, room_clear, empty_clear}
@@ -266,3 +269,17 @@ chain_first {chains = chains} {rooms} s p below own =
       inside,
       rw (eq-eqb (get_or rooms (get_or chains p 0) 0) 65535 (s.room_labels.own (get_or chains p 0) inside first)) (eq-eqb (get_or chains p 0) (get_or chains (get_or chains p 0) 0) (sym same)),
     )
+
+-- the set for the first point of an own chain holds exactly the rooms that are vital to it
+pub first_vital : {size : Size} {cells : List ℕ} {colour : Colour} {old_chains old_rooms chains rooms : List ℕ} {regions : Regions} → Regioned size cells colour old_chains old_rooms chains rooms regions →
+    (p : ℕ) → seen size cells colour p ≡ mine → VitalRooms (count_of size) (near_of size) (seen size cells colour) rooms (get_or chains p 0) (set_of regions.vital (get_or chains p 0))
+first_vital {size} {cells} {colour} {chains = chains} {rooms} {regions} r p own =
+    let (first, same) = first_own (r.chained colour) p own in
+    subst (λ (c : ℕ). VitalRooms (count_of size) (near_of size) (seen size cells colour) rooms (get_or chains p 0) (set_of regions.vital c)) same (r.vital (get_or chains p 0) first)
+
+-- and those that have it for a wall
+pub first_walls : {size : Size} {cells : List ℕ} {colour : Colour} {old_chains old_rooms chains rooms : List ℕ} {regions : Regions} → Regioned size cells colour old_chains old_rooms chains rooms regions →
+    (p : ℕ) → seen size cells colour p ≡ mine → WallRooms (count_of size) (near_of size) (seen size cells colour) rooms (get_or chains p 0) (set_of regions.walls (get_or chains p 0))
+first_walls {size} {cells} {colour} {chains = chains} {rooms} {regions} r p own =
+    let (first, same) = first_own (r.chained colour) p own in
+    subst (λ (c : ℕ). WallRooms (count_of size) (near_of size) (seen size cells colour) rooms (get_or chains p 0) (set_of regions.walls c)) same (r.walls (get_or chains p 0) first)

@@ -1,5 +1,4 @@
 pub mod All
-mod Arrays
 pub mod Bits
 pub mod Bundle
 pub mod Counts

@@ -1,8 +1,8 @@
 -- The striking by numbers: from counts of bits to rooms of chains, and from one strike to the next.
-use Rattle.std.proofs.Common.{◌≡◌, ℕ, ◌<◌, ◌≤◌, Bool, true, eqb, ltb, ◌≢◌, List, get_or, sym, refl, ◌∙◌, subst, inl, inr, arith}
-use Rattle.std.proofs.lemmas.Bool.{and_parts, and_from, eqb-true, eq-eqb, ltb-true, lt-ltb}
+use Rattle.std.proofs.Common.{◌≡◌, ℕ, ◌<◌, ◌≤◌, Bool, true, false, not, ◌&&◌, eqb, ltb, ◌≢◌, ◌⊎◌, List, get_or, sym, refl, ◌∙◌, subst, inl, inr, arith}
+use Rattle.std.proofs.lemmas.Bool.{cases_Bool, and_parts, and_from, and_right, both_ways, not_from_true, not_from_false, eqb-true, eq-eqb, ltb-true, lt-ltb, not-true}
 use Rattle.grid.specs.Graph.{Near, Graph}
-use Rattle.chains.specs.Board.{mine, Board, at, on}
+use Rattle.chains.specs.Board.{mine, Board, Joined, at, on}
 use Rattle.chains.specs.Computed.{is_state}
 use Rattle.chains.specs.Labels.{of_class, First, Labelled, ChainLabels}
 use Rattle.chains.specs.Linked.{Linked}
@@ -12,11 +12,11 @@ use Rattle.chains.proofs.Chain.{joined_first}
 use Rattle.chains.proofs.Labelling.{first_unique, first_along}
 use Rattle.rooms.specs.Bits.{member, in_both, shared_below}
 use Rattle.rooms.specs.Regions.{not_mine, OneRoom}
-use Rattle.rooms.specs.Striking.{VitalTo, TwoOpen, FewOpen, Whole, Settled}
-use Rattle.rooms.specs.Numbered.{RoomLabels, VitalRooms, kept_by, open_by, Going}
+use Rattle.rooms.specs.Striking.{Wall, VitalTo, WallsIn, SoundSoFar, TwoOpen, FewOpen, Whole, Settled}
+use Rattle.rooms.specs.Numbered.{RoomLabels, VitalRooms, WallRooms, kept_by, open_by, Going}
 use Rattle.rooms.proofs.Regions.{linked_below}
 use Rattle.rooms.proofs.Counts.{count_two, few_count}
-use Rattle.rooms.proofs.Rounds.{mine_or_not, start_sound}
+use Rattle.rooms.proofs.Rounds.{mine_or_not, start_sound, strike_chain_sound, rooms_struck_sound, wall_along, wall_of_room}
 
 -- a chain that shares fewer than two vital rooms with the open ones has no two open rooms
 pub few_open : {n : ℕ} {near : Near} → Graph n near → {b : Board} {rooms vital : List ℕ} {c : ℕ} (open_rooms : List ℕ) → RoomLabels n near b rooms → VitalRooms n near b rooms c vital →
@@ -78,6 +78,60 @@ going_start {n} {near} {b} {chains} {rooms} kept open_rooms all_kept all_open =
   where
     has : (p : ℕ) → b p ≡ mine → kept_by b chains kept p ≡ true
     has p m = and_from (is_state mine (b p)) (member kept (get_or chains p 0)) (state_is mine (b p) m) (all_kept p m)
+
+-- a chain that shares fewer than two vital rooms with the open ones is struck, and with it the rooms that have it for a wall
+pub going_strike : {n : ℕ} {near : Near} → Graph n near → {b : Board} {chains rooms kept open_rooms vital beside : List ℕ} (c : ℕ) (later_kept later_open : List ℕ) →
+    ChainLabels n near b chains → RoomLabels n near b rooms → VitalRooms n near b rooms c vital → WallRooms n near b rooms c beside → n ≤ 384 → b c ≡ mine →
+    shared_below 384 vital open_rooms < 2 →
+    ((i : ℕ) → member later_kept i ≡ (member kept i && not (eqb i (get_or chains c 0)))) →
+    ((i : ℕ) → member later_open i ≡ (member open_rooms i && not (member beside i))) →
+    Going n near b chains rooms kept open_rooms → Going n near b chains rooms later_kept later_open
+going_strike {n} {near} g {b} {chains} {rooms} {kept} {open_rooms} {vital} {beside} c later_kept later_open chain_labels room_labels v w small is_mine few kept_is open_is going =
+    record { sound = rooms_struck_sound struck_chain struck_rooms; walls = walls }
+  where
+    was_parts : (p : ℕ) → kept_by b chains kept p ≡ true → (is_state mine (b p) ≡ true) × (member kept (get_or chains p 0) ≡ true)
+    was_parts p h = and_parts (is_state mine (b p)) (member kept (get_or chains p 0)) h
+
+    -- what was kept is kept, or is of the chain of c
+    still_or_chain : (p : ℕ) → kept_by b chains kept p ≡ true → (kept_by b chains later_kept p ≡ true) ⊎ Joined near b mine c p
+    still_or_chain p h = elim (cases_Bool (eqb (get_or chains p 0) (get_or chains c 0))) [
+      | inl same ↦
+          inr (chain_labels.one_chain mine c p (λ z. none_mine z refl) is_mine (λ z. none_mine z (is_state_true mine (b p) (was_parts p h).0))
+          (sym (eqb-true (get_or chains p 0) (get_or chains c 0) same)))
+      | inr other ↦
+          inl (and_from (is_state mine (b p)) (member later_kept (get_or chains p 0)) (was_parts p h).0
+          (kept_is (get_or chains p 0) ∙ and_from (member kept (get_or chains p 0)) (not (eqb (get_or chains p 0) (get_or chains c 0))) (was_parts p h).1 (not_from_false (eqb (get_or chains p 0) (get_or chains c 0)) other)))
+    ]
+
+    struck_chain : SoundSoFar n near b (kept_by b chains later_kept) (open_by rooms open_rooms)
+    struck_chain = strike_chain_sound g c going.sound (few_open g open_rooms room_labels v small few) still_or_chain
+
+    gone : kept_by b chains later_kept c ≡ false
+    gone =
+        let x = get_or chains c 0 in
+        and_right (is_state mine (b c)) (member later_kept x) (kept_is x ∙ and_right (member kept x) (not (eqb x x)) (not_from_true (eqb x x) (eq-eqb x x refl)))
+
+    -- a point whose number is in the set of rooms beside the chain has no stone of mine
+    clear : (y : ℕ) → y < n → member beside (get_or rooms y 0) ≡ true → not_mine b y ≡ true
+    clear y below struck = elim (mine_or_not b y) [
+      | inl m ↦ (let e = room_labels.own y below m in let l = (w.is_room (get_or rooms y 0) struck).below in absurd (omega arith))
+      | inr h ↦ h
+    ]
+
+    -- what was open is open, or has the chain of c for a wall
+    struck_rooms : (y : ℕ) → y < n → open_by rooms open_rooms y ≡ true → (open_by rooms later_open y ≡ true) ⊎ ((d : ℕ) × Wall near b d y × (kept_by b chains later_kept d ≡ false))
+    struck_rooms y below is_open = elim (cases_Bool (member beside (get_or rooms y 0))) [
+      | inl struck ↦ inr (c, wall_of_room (room_labels.linked y below (clear y below struck)) (w.sound (get_or rooms y 0) struck), gone)
+      | inr other ↦ inl (open_is (get_or rooms y 0) ∙ and_from (member open_rooms (get_or rooms y 0)) (not (member beside (get_or rooms y 0))) is_open (not_from_false (member beside (get_or rooms y 0)) other))
+    ]
+
+    walls : (y : ℕ) → y < n → open_by rooms later_open y ≡ true → WallsIn near b (kept_by b chains later_kept) y
+    walls y below is_open d wall =
+        let parts = and_parts (member open_rooms (get_or rooms y 0)) (not (member beside (get_or rooms y 0))) (sym (open_is (get_or rooms y 0)) ∙ is_open) in
+        elim (still_or_chain d (going.walls y below parts.0 d wall)) [
+          | inl k ↦ k
+          | inr j ↦ absurd (both_ways (member beside (get_or rooms y 0)) (not-true (member beside (get_or rooms y 0)) parts.1) (w.complete y below (wall_along j wall)))
+        ]
 
 -- when each chain that is kept shares at least two vital rooms with the open ones, nothing more can be struck
 pub going_end : {n : ℕ} {near : Near} {b : Board} {chains rooms kept open_rooms : List ℕ} → RoomLabels n near b rooms → Going n near b chains rooms kept open_rooms →

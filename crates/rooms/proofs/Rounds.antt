@@ -1,5 +1,5 @@
 -- The rounds of striking: nothing safe is ever struck, and what is left when nothing more can be struck is safe.
-use Rattle.std.proofs.Common.{◌≡◌, ℕ, ◌<◌, true, ◌⊎◌, inl, inr}
+use Rattle.std.proofs.Common.{◌≡◌, ℕ, ◌<◌, true, false, ◌⊎◌, inl, inr}
 use Rattle.std.proofs.lemmas.Bool.{both_ways}
 use Rattle.grid.specs.Graph.{Near, Graph}
 use Rattle.chains.specs.Board.{none, mine, Board, Joined, at, on}
@@ -7,10 +7,10 @@ use Rattle.chains.specs.Linked.{here, step}
 use Rattle.chains.specs.Computed.{reaches}
 use Rattle.chains.proofs.States.{is_none, is_mine, is_yours, kind, none_mine, mine_yours}
 use Rattle.chains.proofs.Reach.{linked_last, linked_trans, linked_sym, reaches_linked, linked_reaches}
-use Rattle.chains.proofs.Chain.{joined_last, joined_sym}
-use Rattle.rooms.specs.Regions.{not_mine, OneRoom, AllBeside}
+use Rattle.chains.proofs.Chain.{joined_last, joined_trans, joined_sym}
+use Rattle.rooms.specs.Regions.{not_mine, OneRoom, Beside, AllBeside}
 use Rattle.rooms.specs.Safe.{Marks, Room, Safe}
-use Rattle.rooms.specs.Striking.{Wall, VitalTo, WallsIn, SoundSoFar, TwoOpen, ChainsStruck, RoomsStruck, Whole, Settled}
+use Rattle.rooms.specs.Striking.{Wall, VitalTo, WallsIn, SoundSoFar, TwoOpen, FewOpen, ChainsStruck, RoomsStruck, Whole, Settled}
 use Rattle.rooms.proofs.Bundle.{VitalRoom, RoomPair, safe_pair, pairs_safe}
 use Rattle.rooms.proofs.Regions.{clear_cases, beside_below}
 
@@ -133,9 +133,41 @@ rooms_struck_sound {n} {near} {b} {kept} {rooms} {later} sound struck = record {
           | inr (c, wall, gone) ↦ absurd (both_ways (kept c) gone (sound.stones_kept s safe c (walls c wall)))
         ]
 
+-- a point beside a chain is beside the chain of each of its stones
+pub beside_along : {near : Near} {b : Board} {c p e : ℕ} → Joined near b mine c p → Beside near b p e → Beside near b c e
+beside_along j s = record { stone = s.stone; chain = joined_trans j s.chain; next = s.next }
+
+-- a room that is vital to a chain is vital to the chain of each of its stones
+pub vital_along : {near : Near} {b : Board} {c p y : ℕ} → Joined near b mine c p → VitalTo near b p y → VitalTo near b c y
+vital_along j v = record { point = v.point; inside = v.inside; is = v.is; all = λ e l z. beside_along j (v.all e l z) }
+
+-- a wall that is told by one stone of a chain is told by each
+pub wall_along : {near : Near} {b : Board} {c p y : ℕ} → Joined near b mine c p → Wall near b p y → Wall near b c y
+wall_along j w = record { point = w.point; inside = w.inside; beside = beside_along j w.beside }
+
 -- a wall of a room, told by another point of the room
 pub wall_of_room : {near : Near} {b : Board} {c y z : ℕ} → OneRoom near b z y → Wall near b c y → Wall near b c z
 wall_of_room l w = record { point = w.point; inside = linked_trans l w.inside; beside = w.beside }
+
+-- a room that is vital to a chain, told by another point of the room
+pub vital_of_room : {n : ℕ} {near : Near} → Graph n near → {b : Board} {c y z : ℕ} → OneRoom near b z y → VitalTo near b c y → VitalTo near b c z
+vital_of_room g l v = record { point = v.point; inside = linked_trans l v.inside; is = v.is; all = λ e m h. v.all e (linked_trans (linked_sym g l) m) h }
+
+-- to strike the chain of c, which is without two open rooms, strikes nothing safe
+pub strike_chain_sound : {n : ℕ} {near : Near} → Graph n near → {b : Board} {kept rooms later : Marks} (c : ℕ) →
+    SoundSoFar n near b kept rooms → FewOpen n near b rooms c → ((p : ℕ) → kept p ≡ true → (later p ≡ true) ⊎ Joined near b mine c p) → SoundSoFar n near b later rooms
+strike_chain_sound g c sound few struck = chains_struck_sound g sound (λ p h. elim (struck p h) [
+  | inl k ↦ inl k
+  | inr j ↦ inr (λ y z y_below z_below y_open z_open v w. few y z y_below z_below y_open z_open (vital_along j v) (vital_along j w))
+])
+
+-- to strike the room of y, which has a wall that is not kept, strikes nothing safe
+pub strike_room_sound : {n : ℕ} {near : Near} → Graph n near → {b : Board} {kept rooms later : Marks} {c : ℕ} (y : ℕ) →
+    SoundSoFar n near b kept rooms → Wall near b c y → kept c ≡ false → ((z : ℕ) → z < n → rooms z ≡ true → (later z ≡ true) ⊎ OneRoom near b y z) → SoundSoFar n near b kept later
+strike_room_sound g {c = c} y sound wall gone struck = rooms_struck_sound sound (λ z below h. elim (struck z below h) [
+  | inl k ↦ inl k
+  | inr l ↦ inr (c, wall_of_room (linked_sym g l) wall, gone)
+])
 
 -- what is left when nothing more can be struck is safe
 pub rest_safe : {n : ℕ} {near : Near} → Graph n near → {b : Board} {kept rooms : Marks} → Whole near b kept → Settled n near b kept rooms → Safe near b kept

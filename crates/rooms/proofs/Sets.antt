@@ -1,5 +1,5 @@
 -- Sets of numbers as bits of words: taking one set from another, and how many numbers are in both.
-use Rattle.std.proofs.Common.{◌≡◌, ℕ, zero, suc, ◌+◌, ◌-◌, ◌*◌, ◌/◌, ◌%◌, ◌^◌, ◌<◌, ◌≤◌, Bool, not, ◌&&◌, List, [], ◌∷◌, length, get_or, sym, refl, ◌∙◌, inl, inr, arith}
+use Rattle.std.proofs.Common.{◌≡◌, ℕ, zero, suc, ◌+◌, ◌-◌, ◌*◌, ◌/◌, ◌%◌, ◌^◌, ◌<◌, ◌≤◌, Bool, false, not, ◌&&◌, List, [], ◌∷◌, length, get_or, sym, refl, ap, ◌∙◌, inl, inr, arith}
 use Rattle.std.specs.List.{sum_by, zip}
 use lib.Bits.{bit_and}
 use lib.Count.{ones}
@@ -9,7 +9,7 @@ use Rattle.std.proofs.lemmas.Bool.{cases_lt}
 use Rattle.chains.specs.Computed.{count}
 use Rattle.chains.proofs.Below.{count_bound}
 use Rattle.rooms.specs.Bits.{bit, member, in_both, shared_below}
-use Rattle.rooms.proofs.Bits.{bit-bit_and, bit-not, ones_count, member_past, member_word}
+use Rattle.rooms.proofs.Bits.{bit-bit_and, bit-not, ones_count, bits_zero, member_past, member_word}
 use Rattle.rooms.proofs.Counts.{count_same, count_add}
 
 -- a set from which another was taken, word by word
@@ -63,6 +63,32 @@ shared_words (x ∷ xs) (y ∷ ys) (suc n) e f width =
     count_same (in_both (x ∷ xs) (y ∷ ys)) (λ i. bit x i && bit y i) 64 (λ i l. rw (member_first x xs i l, member_first y ys i l) refl) in
     rw (sum_by-cons (λ (p : ℕ × ℕ). ones (bit_and p.0 p.1)) (x, y) (zip xs ys), split, count_add (in_both (x ∷ xs) (y ∷ ys)) 64 (n * 64))
     (omega (arith, shared_word x y (width 0 (omega arith))))
+
+-- one word more
+pub shared_more : (one two : List ℕ) (k : ℕ) → get_or one k 0 < 2 ^ 64 →
+    shared_below ((k + 1) * 64) one two ≡ shared_below (k * 64) one two + ones (bit_and (get_or one k 0) (get_or two k 0))
+shared_more one two k width =
+    let e : (k + 1) * 64 ≡ k * 64 + 64 = omega arith in
+    let split = count_add (in_both one two) (k * 64) 64 in
+    let word : count (λ i. in_both one two (k * 64 + i)) 64 ≡ count (bit v) 64 = count_same (λ i. in_both one two (k * 64 + i)) (bit v) 64 each in
+    let tally : ones v ≡ count (bit v) 64 = ones_count 64 v (omega (arith, and_le_l (get_or one k 0) (get_or two k 0))) in
+    rw e (omega arith)
+  where
+    v : ℕ
+    v = bit_and (get_or one k 0) (get_or two k 0)
+
+    each : (i : ℕ) → i < 64 → in_both one two (k * 64 + i) ≡ bit v i
+    each i l =
+        let d : (k * 64 + i) / 64 ≡ k = omega arith in
+        let m : (k * 64 + i) % 64 ≡ i = omega arith in
+        rw (member_word one (k * 64 + i) k d, member_word two (k * 64 + i) k d, m) (sym (bit-bit_and (get_or one k 0) (get_or two k 0) i))
+
+-- a word is zero if none of its numbers is in the set
+pub word_zero : (words : List ℕ) (k : ℕ) → get_or words k 0 < 2 ^ 64 → ((i : ℕ) → i / 64 ≡ k → member words i ≡ false) → get_or words k 0 ≡ 0
+word_zero words k width none = bits_zero 64 (get_or words k 0) width (λ i l.
+    let d : (k * 64 + i) / 64 ≡ k = omega arith in
+    let m : (k * 64 + i) % 64 ≡ i = omega arith in
+    ap (bit (get_or words k 0)) (sym m) ∙ sym (member_word words (k * 64 + i) k d) ∙ none (k * 64 + i) d)
 
 -- a count of what is shared does not pass the numbers that are looked at
 pub shared_bound : (n : ℕ) (one two : List ℕ) → shared_below n one two ≤ n

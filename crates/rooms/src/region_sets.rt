@@ -162,7 +162,9 @@ fn own_stones(position: &Position, colour: Colour) -> [u8; MAX_POINTS]
     ensures { (p : ℕ) → p < count_of position.now.size → slice_index result p ≡ own_byte (stone_byte colour) (slice_index position.now.cells p) }
 {
     let own = colour.byte();
-    position.cells().map(|byte| own_byte(byte, own))
+    let cells = position.cells();
+    // not `map` over the array, which takes its elements out one by one
+    std::array::from_fn(|p| own_byte(cells[p], own))
 }
 
 /// Writes the first point of its room for each point without an own stone: these points are one class of bytes once the other side's stones are left out.

@@ -1,4 +1,4 @@
-use Rattle.std.proofs.Common.{◌≡◌, ◌<◌, ◌≤◌, length, sym, ap, ◌∙◌, subst, arith, rules}
+use Rattle.std.proofs.Common.{◌≡◌, ◌-◌, ◌<◌, ◌≤◌, length, sym, ap, ◌∙◌, subst, arith, rules}
 use Rattle.std.specs.Option.{is_some}
 use Rattle.grid.specs.declared.size.Size.{Size}
 use Rattle.chains.specs.Sized.{count_of}
@@ -38,4 +38,5 @@ returns c =
     let left = c.without_breathless-after.ensures in
     let looked = stone_looked c.args.position c.with_stone-placed.result c.without_breathless-after.result c.args.colour c.other.result long inside empty c.other.ensures put.sized put.put left.sized left.left c.if-not-breathes.ensures in
     let number = rw (c.cells.ensures, c.cells-2.ensures, c.other-2.ensures) at c.count_taken-taken.ensures in
-    (stone_played long few looked number, looked.made.sized)
+    let all : c.points-count.result - 0 ≡ count_of c.args.position.size = subst (λ (s : Size). c.points-count.result - 0 ≡ count_of s) c.size-2.ensures (omega arith) in
+    (stone_played long few looked all number, looked.made.sized)

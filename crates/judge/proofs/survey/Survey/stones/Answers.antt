@@ -1,18 +1,18 @@
-use Rattle.std.proofs.Common.{false, sym, ◌∙◌, inl, inr, arith, rules, tests}
-use Rattle.std.proofs.lemmas.Bool.{cases_lt}
-use Rattle.std.proofs.lemmas.List.{get_or_past}
-use Rattle.chains.specs.Sized.{seen}
-use Rattle.rooms.specs.Numbered.{kept_by}
-use Rattle.chains.proofs.Filled.{filled_by}
+use Rattle.std.proofs.Common.{◌≡◌, subst, arith}
+use Rattle.grid.specs.declared.size.Size.{Size}
+use Rattle.chains.specs.Sized.{count_of}
+use Rattle.chains.proofs.Marking.{stones_start, stones_step, stones_end}
 use Rattle.judge.proofs.Surveyed.{kept_past}
 use Rattle.judge.proofs.survey.Survey.stones.Goals as goal
 
+pub loop-p-init : goal.loop-p-init
+loop-p-init c = stones_start
+
+pub loop-p-preserved : goal.loop-p-preserved
+loop-p-preserved c = stones_step c.loop-p.invariant (omega arith) c.stays.ensures
+
 pub returns : goal.returns
-returns c p =
+returns c =
     let survey = c.args.self.now in
-    elim (cases_lt p 361) [
-      | inl l ↦ filled_by (kept_by (seen survey.position.now.size survey.position.now.cells survey.colour) survey.chains.now c.args.left.now.words) false c.from_fn.ensures.items (λ i y q called. search (rules, tests)) p l
-      | inr m ↦
-          get_or_past c.from_fn.result p false (omega (arith, c.from_fn.ensures.items.long))
-          ∙ sym (kept_past survey.position.now.size survey.position.now.cells survey.colour survey.chains.now c.args.left.now.words p (omega (arith, survey.position.now.size.few.1)))
-    ]
+    let all : c.loop-p.p ≡ count_of survey.position.now.size = subst (λ (s : Size). c.loop-p.p ≡ count_of s) c.size.ensures (omega arith) in
+    stones_end (kept_past survey.position.now.size survey.position.now.cells survey.colour survey.chains.now c.args.left.now.words) c.loop-p.invariant all
